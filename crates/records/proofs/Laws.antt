@@ -1,0 +1,3 @@
+-- The laws of the definitions in specs/, each under the name of the file that has the definition.
+pub mod Numbers
+pub mod Record

@@ -1,0 +1,35 @@
+-- Numbers in a file, as document 01 has them under "Records": unsigned and little-endian, the first byte weighing least.
+-- A number whose bytes are not all there reads as 0, so that every offset has an answer.
+use Prim.Native.Nat.{ℕ, _+_, _*_, _^_}
+use mathlib.Core.List.{List}
+use mathlib.Core.Bool.{cond}
+use lib.ListN.{length, getD}
+use lib.Dec.{leb}
+
+-- the byte at an offset
+abbrev pub byteAt : List ℕ → ℕ → ℕ
+byteAt bytes at = getD bytes at 0
+
+-- two bytes as a number
+abbrev pub twoAt : List ℕ → ℕ → ℕ
+twoAt bytes at = byteAt bytes at + 2 ^ 8 * byteAt bytes (at + 1)
+
+-- eight bytes as a number
+abbrev pub eightAt : List ℕ → ℕ → ℕ
+eightAt bytes at =
+    byteAt bytes at
+    + 2 ^ 8 * byteAt bytes (at + 1)
+    + 2 ^ 16 * byteAt bytes (at + 2)
+    + 2 ^ 24 * byteAt bytes (at + 3)
+    + 2 ^ 32 * byteAt bytes (at + 4)
+    + 2 ^ 40 * byteAt bytes (at + 5)
+    + 2 ^ 48 * byteAt bytes (at + 6)
+    + 2 ^ 56 * byteAt bytes (at + 7)
+
+-- the number of 2 bytes at an offset
+unfoldable pub u16At : List ℕ → ℕ → ℕ
+u16At bytes at = cond (leb (at + 2) (length bytes)) (twoAt bytes at) 0
+
+-- the number of 8 bytes at an offset
+unfoldable pub u64At : List ℕ → ℕ → ℕ
+u64At bytes at = cond (leb (at + 8) (length bytes)) (eightAt bytes at) 0

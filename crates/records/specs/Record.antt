@@ -1,0 +1,21 @@
+-- A record of a file, as document 01 has it under "Records": body length (2 bytes), kind (2 bytes), body. Questions 1 and 11 ask
+-- whether the four head bytes and the body are all there.
+use Prim.Native.Nat.{ℕ, _+_}
+use mathlib.Core.List.{List}
+use mathlib.Core.Bool.{Bool, cond, _&&_}
+use lib.ListN.{length}
+use lib.Dec.{leb}
+use Rattle.records.specs.Numbers.{u16At}
+use Rattle.records.specs.declared.record.Found.{Found}
+use Rattle.records.specs.declared.record.Found.the-variants.{Record, Missing}
+
+-- whether head and body of the record at an offset are all there
+unfoldable pub whole : List ℕ → ℕ → Bool
+whole bytes at = leb (at + 4) (length bytes) && leb (at + 4 + u16At bytes at) (length bytes)
+
+-- the record at an offset: its kind, where its body starts, how long the body is, and where the next record begins
+unfoldable pub recordAt : List ℕ → ℕ → Found
+recordAt bytes at =
+    cond (whole bytes at)
+    (Record (u16At bytes (at + 2)) (at + 4) (u16At bytes at) (at + 4 + u16At bytes at))
+    Missing
