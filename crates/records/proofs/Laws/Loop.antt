@@ -1,0 +1,26 @@
+-- The law of a loop whose measure falls: it is one turn, and then the loop again. Any two numbers of turns above the measure give
+-- the same answer, so what is left after a turn is still enough.
+-- Assumes nothing.
+use Prim.Native.Nat.{ℕ, zero, suc, _<_}
+use mathlib.Core.Path.{_≡_, refl}
+use native.Mathlib.Nat.{not-suc-le-zero, le-refl}
+use native.Mathlib.Omega.{arith}
+use Rattle.records.specs.Loop.{Turn, stop, go, after, turns, loop}
+
+after-same : {S A : Type 0} (u : Turn S A) (f g : S → A) → ((t : S) → u ≡ go t → f t ≡ g t) → after u f ≡ after u g
+unfolding after
+after-same (stop a) f g same = refl
+after-same (go t) f g same = same t refl
+
+module _ {S A : Type 0} (turn : S → Turn S A) (measure : S → ℕ) (short : A)
+    (falls : (s t : S) → turn s ≡ go t → measure t < measure s) where
+  enough : (m n : ℕ) (s : S) → measure s < m → measure s < n → turns turn short m s ≡ turns turn short n s
+  unfolding turns
+  enough zero n s h k = absurd (not-suc-le-zero h)
+  enough (suc m) zero s h k = absurd (not-suc-le-zero k)
+  enough (suc m) (suc n) s h k =
+      after-same (turn s) _ _ (λ t e. enough m n t (omega (arith, falls s t e)) (omega (arith, falls s t e)))
+
+  pub unroll : (s : S) → loop turn measure short s ≡ after (turn s) (loop turn measure short)
+  unfolding loop turns
+  unroll s = after-same (turn s) _ _ (λ t e. enough (measure s) (suc (measure t)) t (falls s t e) (le-refl _))
