@@ -2,7 +2,7 @@
 ghost use mathlib.Core.Path.{_≡_};
 ghost use Prim.Native.Nat.{_+_, _≤_, _<_};
 ghost use lib.ListN.{length};
-ghost use Rattle.records.specs.Numbers.{twoAt, eightAt, u16At, u64At};
+ghost use Rattle.records.specs.Numbers.{byteAt, twoAt, eightAt, u16At, u64At};
 
 // A byte as a wider number.
 fn wide(byte: u8) -> u64
@@ -32,6 +32,13 @@ fn eight_at(bytes: &[u8], at: usize) -> u64
         + 0x100_0000_0000 * wide(bytes[at + 5])
         + 0x1_0000_0000_0000 * wide(bytes[at + 6])
         + 0x100_0000_0000_0000 * wide(bytes[at + 7])
+}
+
+// The byte at an offset.
+pub fn byte_at(bytes: &[u8], at: usize) -> u8
+    ensures { λ r. ⌜ r ≡ byteAt (now (bytes .entry)) at ⌝ }
+{
+    if at < bytes.len() { bytes[at] } else { 0 }
 }
 
 // The number of 2 bytes at an offset.

@@ -1,0 +1,136 @@
+-- Decoding op by op, and that decoding and encoding are inverse to one another where the instruction is allowed.
+-- Assumes nothing.
+use Prim.Native.Nat.{ℕ, zero, suc, _+_, _≤_}
+use mathlib.Core.List.{List}
+use lib.ListN.{length, set}
+use lib.Seq.{set-out}
+use mathlib.Core.Path.{_≡_, refl, sym, ap, _∙_}
+use mathlib.Core.Bool.{Bool, true, false, true≢false, false≢true, _&&_}
+use lib.Dec.{eqb}
+use borrow.Author.Tests.{ne-eqb, eqb-true}
+use native.Mathlib.Omega.{arith}
+use Rattle.records.proofs.Laws.Numbers.{byte-missing}
+use Rattle.task.specs.Instruction.{keep, spelled, allowed, onLine, decode, encode, tripleAt, withTriple}
+use Rattle.task.specs.declared.bounds.Bounds.{Bounds}
+use Rattle.task.specs.declared.instruction.Triple.{Triple}
+use Rattle.task.specs.declared.instruction.Instruction.{Instruction}
+use Rattle.task.specs.declared.instruction.Instruction.the-variants.{Empty, Act, Goto, Call, End}
+use Rattle.task.specs.declared.instruction.Decoded.{Decoded}
+use Rattle.task.specs.declared.instruction.Decoded.the-variants.{Allowed, Forbidden}
+
+apart : (w : Instruction) → Allowed w ≡ Forbidden → ⊥
+apart w h = let z : _≡_ {A = ℕ} 0 1 = cc in omega arith
+
+pub kept-both : (zeros ok : Bool) (d : Decoded) → (zeros && ok) ≡ true → d ≡ keep zeros (keep ok d)
+unfolding keep
+kept-both true true d h = refl
+kept-both true false d h = absurd (false≢true h)
+kept-both false ok d h = absurd (false≢true h)
+
+pub kept-not : (zeros ok : Bool) (d : Decoded) → (zeros && ok) ≡ false → Forbidden ≡ keep zeros (keep ok d)
+unfolding keep
+kept-not true true d h = absurd (true≢false h)
+kept-not true false d h = refl
+kept-not false ok d h = refl
+
+module _ (b : Bounds) (actions line : ℕ) where
+  line-keep : (t : Bool) (w : Instruction) → keep t (keep (allowed b actions line w) (Allowed w)) ≡ onLine b actions line (keep t (Allowed w))
+  unfolding onLine keep
+  line-keep true w = refl
+  line-keep false w = refl
+
+  module _ (w : Triple) where
+    pub decode-empty : w .op ≡ 0
+        → keep (eqb (w .p) 0 && eqb (w .q) 0) (keep (allowed b actions line Empty) (Allowed Empty)) ≡ decode b actions line w
+    unfolding decode spelled
+    decode-empty h = rw h (line-keep _ _)
+
+    pub decode-act : w .op ≡ 1
+        → keep (eqb (w .q) 0) (keep (allowed b actions line (Act (w .p))) (Allowed (Act (w .p)))) ≡ decode b actions line w
+    unfolding decode spelled
+    decode-act h = rw h (line-keep _ _)
+
+    pub decode-goto : w .op ≡ 2
+        → keep true (keep (allowed b actions line (Goto (record { 0 = w .p }) (w .q))) (Allowed (Goto (record { 0 = w .p }) (w .q))))
+        ≡ decode b actions line w
+    unfolding decode spelled keep
+    decode-goto h = rw h (line-keep true _)
+
+    pub decode-call : w .op ≡ 3
+        → keep (eqb (w .q) 0) (keep (allowed b actions line (Call (record { 0 = w .p }))) (Allowed (Call (record { 0 = w .p }))))
+        ≡ decode b actions line w
+    unfolding decode spelled
+    decode-call h = rw h (line-keep _ _)
+
+    pub decode-end : w .op ≡ 4
+        → keep (eqb (w .p) 0 && eqb (w .q) 0) (keep (allowed b actions line End) (Allowed End)) ≡ decode b actions line w
+    unfolding decode spelled
+    decode-end h = rw h (line-keep _ _)
+
+    pub decode-other : 5 ≤ w .op → Forbidden ≡ decode b actions line w
+    unfolding decode spelled onLine
+    decode-other h =
+        simp (ne-eqb (w .op) 0 (omega arith), ne-eqb (w .op) 1 (omega arith), ne-eqb (w .op) 2 (omega arith),
+              ne-eqb (w .op) 3 (omega arith), ne-eqb (w .op) 4 (omega arith))
+
+  pub decode-encode : (w : Instruction) → allowed b actions line w ≡ true → decode b actions line (encode w) ≡ Allowed w
+  unfolding decode spelled onLine encode keep
+  decode-encode Empty h = simp h
+  decode-encode (Act action) h = simp h
+  decode-encode (Goto target fact) h = rw h
+  decode-encode (Call procedure) h = rw h
+  decode-encode End h = simp h
+
+both-true : (a c : Bool) → (a && c) ≡ true → (a ≡ true) × (c ≡ true)
+both-true true c h = (refl, h)
+both-true false c h = absurd (false≢true h)
+
+triple-is : (t : Triple) {op p q : ℕ} → op ≡ t .op → p ≡ t .p → q ≡ t .q → record { op = op; p = p; q = q } ≡ t
+triple-is t e f g = λ i. record { op = e i; p = f i; q = g i }
+
+keep-inverse : (t u : Bool) (v w : Instruction) → Allowed w ≡ keep t (keep u (Allowed v)) → (t ≡ true) × (v ≡ w)
+unfolding keep
+keep-inverse true true v w h = (refl, cc)
+keep-inverse true false v w h = absurd (apart w h)
+keep-inverse false u v w h = absurd (apart w h)
+
+module _ (b : Bounds) (actions line : ℕ) (t : Triple) (w : Instruction) (h : decode b actions line t ≡ Allowed w) where
+  spelled-by : (zeros ok : Bool) (v : Instruction) → keep zeros (keep ok (Allowed v)) ≡ decode b actions line t → (zeros ≡ true) × (v ≡ w)
+  spelled-by zeros ok v e = keep-inverse zeros ok v w (sym (e ∙ h))
+
+  by-op : (op : ℕ) → t .op ≡ op → encode w ≡ t
+  unfolding encode
+  by-op zero e =
+      let k = spelled-by _ _ _ (decode-empty b actions line t e) in
+      let z = both-true _ _ (k .0) in
+      ap encode (sym (k .1)) ∙ triple-is t (sym e) (sym (eqb-true _ _ (z .0))) (sym (eqb-true _ _ (z .1)))
+  by-op (suc zero) e =
+      let k = spelled-by _ _ _ (decode-act b actions line t e) in
+      ap encode (sym (k .1)) ∙ triple-is t (sym e) refl (sym (eqb-true _ _ (k .0)))
+  by-op (suc (suc zero)) e =
+      let k = spelled-by _ _ _ (decode-goto b actions line t e) in
+      ap encode (sym (k .1)) ∙ triple-is t (sym e) refl refl
+  by-op (suc (suc (suc zero))) e =
+      let k = spelled-by _ _ _ (decode-call b actions line t e) in
+      ap encode (sym (k .1)) ∙ triple-is t (sym e) refl (sym (eqb-true _ _ (k .0)))
+  by-op (suc (suc (suc (suc zero)))) e =
+      let k = spelled-by _ _ _ (decode-end b actions line t e) in
+      let z = both-true _ _ (k .0) in
+      ap encode (sym (k .1)) ∙ triple-is t (sym e) (sym (eqb-true _ _ (z .0))) (sym (eqb-true _ _ (z .1)))
+  by-op (suc (suc (suc (suc (suc op))))) e = absurd (apart w (sym (decode-other b actions line t (omega arith) ∙ h)))
+
+  pub encode-decode : encode w ≡ t
+  encode-decode = by-op (t .op) refl
+
+pub triple-missing : (bytes : List ℕ) (at : ℕ) → length bytes ≤ at → _≡_ {A = Triple} (record { op = 0; p = 0; q = 0 }) (tripleAt bytes at)
+unfolding tripleAt
+triple-missing bytes at h =
+    cc (byte-missing bytes at h, byte-missing bytes (at + 1) (omega arith), byte-missing bytes (at + 2) (omega arith))
+
+pub put-missing : (bytes : List ℕ) (at : ℕ) (w : Triple) → length bytes ≤ at → bytes ≡ withTriple bytes at w
+unfolding withTriple
+put-missing bytes at w h =
+    let e : set bytes at (w .op) ≡ bytes = set-out bytes at (w .op) h in
+    let f : set bytes (at + 1) (w .p) ≡ bytes = set-out bytes (at + 1) (w .p) (omega arith) in
+    let g : set bytes (at + 2) (w .q) ≡ bytes = set-out bytes (at + 2) (w .q) (omega arith) in
+    cc

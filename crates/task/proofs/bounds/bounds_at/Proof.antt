@@ -1,0 +1,55 @@
+-- `task::bounds::bounds_at` meets its contract: each byte is the one that the definition names.
+-- Assumes nothing.
+use borrow.Author.Needs.{needs}
+use Rattle.task.specs.Bounds.{boundsAt}
+use Rattle.task.proofs.bounds.bounds_at.Statement.{statement}
+use Rattle.task.proofs.bounds.bounds_at.Tie as tie
+use Rattle.task.proofs.bounds.bounds_at.Reads as reads
+use Rattle.task.proofs.bounds.bounds_at.Lts as lts
+use Rattle.records.proofs.numbers.u16_at.Reads as u16-at-reads
+
+shared-slice-read-t4 : tie.Need-shared-slice-read-t4
+shared-slice-read-t4 c = search needs
+
+add-t5 : tie.Need-add-t5
+add-t5 c = search needs
+
+shared-slice-read-t7 : tie.Need-shared-slice-read-t7
+shared-slice-read-t7 c = search needs
+
+add-t8 : tie.Need-add-t8
+add-t8 c = search needs
+
+shared-slice-read-t10 : tie.Need-shared-slice-read-t10
+shared-slice-read-t10 c = search needs
+
+add-t11 : tie.Need-add-t11
+add-t11 c = search needs
+
+shared-slice-read-t13 : tie.Need-shared-slice-read-t13
+shared-slice-read-t13 c = search needs
+
+add-u16-at : tie.Need-add-u16-at
+add-u16-at c = search needs
+
+u16-at-requires : tie.Need-u16-at-requires
+u16-at-requires c κs = search needs
+
+returns : tie.Need-returns
+unfolding boundsAt
+returns c = cc
+
+pub bounds-at-spec : {M : Type 1} → statement M
+bounds-at-spec =
+    tie.close
+    (tie.spec
+    shared-slice-read-t4
+    add-t5
+    shared-slice-read-t7
+    add-t8
+    shared-slice-read-t10
+    add-t11
+    shared-slice-read-t13
+    add-u16-at
+    u16-at-requires
+    returns)

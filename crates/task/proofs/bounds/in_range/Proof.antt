@@ -1,0 +1,55 @@
+-- `task::bounds::in_range` meets its contract: it is the conjunction of the five ranges.
+-- Assumes nothing.
+use borrow.Author.Needs.{needs}
+use Rattle.task.specs.Bounds.{inRange}
+use Rattle.task.proofs.bounds.in_range.Statement.{statement}
+use Rattle.task.proofs.bounds.in_range.Tie as tie
+use Rattle.task.proofs.bounds.in_range.Reads as reads
+use Rattle.task.proofs.bounds.in_range.Lts as lts
+use Rattle.task.proofs.bounds.between.Reads as between-reads
+
+cast-between : tie.Need-cast-between
+cast-between c = search needs
+
+between-requires : tie.Need-between-requires
+between-requires c κs = search needs
+
+cast-between-2 : tie.Need-cast-between-2
+cast-between-2 c = search needs
+
+between-requires-2 : tie.Need-between-requires-2
+between-requires-2 c κs = search needs
+
+cast-between-3 : tie.Need-cast-between-3
+cast-between-3 c = search needs
+
+between-requires-3 : tie.Need-between-requires-3
+between-requires-3 c κs = search needs
+
+cast-between-4 : tie.Need-cast-between-4
+cast-between-4 c = search needs
+
+between-requires-4 : tie.Need-between-requires-4
+between-requires-4 c κs = search needs
+
+between-requires-5 : tie.Need-between-requires-5
+between-requires-5 c κs = search needs
+
+returns : tie.Need-returns
+unfolding inRange
+returns c = cc
+
+pub in-range-spec : {M : Type 1} → statement M
+in-range-spec =
+    tie.close
+    (tie.spec
+    cast-between
+    between-requires
+    cast-between-2
+    between-requires-2
+    cast-between-3
+    between-requires-3
+    cast-between-4
+    between-requires-4
+    between-requires-5
+    returns)

@@ -1,0 +1,22 @@
+-- `task::facts::consistent` meets its contract: it is the conjunction of the three tests.
+-- Assumes nothing.
+use borrow.Author.Needs.{needs}
+use Rattle.task.specs.Facts.{consistent}
+use Rattle.task.proofs.facts.consistent.Statement.{statement}
+use Rattle.task.proofs.facts.consistent.Tie as tie
+use Rattle.task.proofs.facts.consistent.Reads as reads
+use Rattle.task.proofs.facts.consistent.Lts as lts
+use Rattle.task.proofs.facts.within.Reads as within-reads
+
+within-requires : tie.Need-within-requires
+within-requires c κs = search needs
+
+within-requires-2 : tie.Need-within-requires-2
+within-requires-2 c κs = search needs
+
+returns : tie.Need-returns
+unfolding consistent
+returns c = cc
+
+pub consistent-spec : {M : Type 1} → statement M
+consistent-spec = tie.close (tie.spec within-requires within-requires-2 returns)

@@ -1,0 +1,71 @@
+-- `task::facts::consistent_pairs` meets its contract: it is the search for the first pair that fails question 6.
+-- Assumes nothing.
+use Prim.Native.Nat.{_-_}
+use mathlib.Core.Path.{_≡_}
+use mathlib.Core.Bool.{true, false}
+use borrow.Author.Needs.{needs}
+use native.Mathlib.Omega.{arith}
+use Rattle.task.specs.Facts.{consistentAt, consistentPairs}
+use Rattle.task.proofs.Laws.First.{Searching, searching, found-yes, found-no, found-none}
+use Rattle.task.proofs.facts.consistent_pairs.Statement.{statement}
+use Rattle.task.proofs.facts.consistent_pairs.Tie as tie
+use Rattle.task.proofs.facts.consistent_pairs.Reads as reads
+use Rattle.task.proofs.facts.consistent_pairs.Lts as lts
+use Rattle.task.proofs.facts.consistent.Reads as consistent-reads
+use Rattle.task.proofs.facts.literals_at.Reads as literals-at-reads
+
+abbrev Inv-loop : tie.InvT-loop
+Inv-loop bytes at count facts k₀ k = Searching (consistentAt facts bytes at) count k
+
+abbrev μ-loop : tie.MeasureT-loop
+μ-loop bytes at count facts k₀ k = count - k
+
+loop-holds : tie.Need-loop-holds Inv-loop μ-loop
+loop-holds c = searching _ _
+
+mul-literals-at : tie.Need-mul-literals-at Inv-loop μ-loop
+mul-literals-at c = search needs
+
+add-literals-at : tie.Need-add-literals-at Inv-loop μ-loop
+add-literals-at c = search needs
+
+literals-at-requires : tie.Need-literals-at-requires Inv-loop μ-loop
+literals-at-requires c κs = search needs
+
+consistent-requires : tie.Need-consistent-requires Inv-loop μ-loop
+consistent-requires c κs = search needs
+
+add-k : tie.Need-add-k Inv-loop μ-loop
+add-k c = search needs
+
+loop-less : tie.Need-loop-less Inv-loop μ-loop
+loop-less c = search needs
+
+loop-again : tie.Need-loop-again Inv-loop μ-loop
+unfolding consistentAt
+loop-again c = found-yes _ _ _ (c .before .before .before .before .loop .inv) (search needs) (cc)
+
+returns : tie.Need-returns Inv-loop μ-loop
+unfolding consistentPairs consistentAt
+returns c = found-no _ _ _ (c .before .before .before .before .loop .inv) (search needs) (cc)
+
+returns-2 : tie.Need-returns-2 Inv-loop μ-loop
+unfolding consistentPairs
+returns-2 c = found-none _ _ _ (c .before .loop .inv) (search needs)
+
+pub consistent-pairs-spec : {M : Type 1} → statement M
+consistent-pairs-spec =
+    tie.close
+    (tie.spec
+    Inv-loop
+    μ-loop
+    loop-holds
+    mul-literals-at
+    add-literals-at
+    literals-at-requires
+    consistent-requires
+    add-k
+    loop-less
+    loop-again
+    returns
+    returns-2)

@@ -1,0 +1,49 @@
+-- `task::instruction::put_triple` meets its contract: three bytes are put, one after the other.
+-- Assumes nothing.
+use borrow.Author.Needs.{needs}
+use native.Mathlib.Omega.{arith}
+use Rattle.task.specs.Instruction.{withTriple}
+use Rattle.task.proofs.Laws.Instruction.{put-missing}
+use Rattle.task.proofs.instruction.put_triple.Statement.{statement}
+use Rattle.task.proofs.instruction.put_triple.Tie as tie
+use Rattle.task.proofs.instruction.put_triple.Reads as reads
+use Rattle.task.proofs.instruction.put_triple.Lts as lts
+use Rattle.task.proofs.instruction.put.Reads as put-reads
+
+returns : tie.Need-returns
+returns c = put-missing _ _ _ (omega arith)
+
+put-requires : tie.Need-put-requires
+put-requires c κs = search needs
+
+add-put : tie.Need-add-put
+add-put c = search needs
+
+put-requires-2 : tie.Need-put-requires-2
+put-requires-2 c κs = search needs
+
+add-put-2 : tie.Need-add-put-2
+add-put-2 c = search needs
+
+put-requires-3 : tie.Need-put-requires-3
+put-requires-3 c κs = search needs
+
+same-length : tie.Need-same-length
+same-length c = search needs
+
+returns-2 : tie.Need-returns-2
+unfolding withTriple
+returns-2 c = cc
+
+pub put-triple-spec : {M : Type 1} → statement M
+put-triple-spec =
+    tie.close
+    (tie.spec
+    returns
+    put-requires
+    add-put
+    put-requires-2
+    add-put-2
+    put-requires-3
+    same-length
+    returns-2)

@@ -1,0 +1,45 @@
+-- `task::instruction::triple_at` meets its contract: past the end every byte reads as 0.
+-- Assumes nothing.
+use borrow.Author.Needs.{needs}
+use native.Mathlib.Omega.{arith}
+use Rattle.task.specs.Instruction.{tripleAt}
+use Rattle.task.proofs.Laws.Instruction.{triple-missing}
+use Rattle.task.proofs.instruction.triple_at.Statement.{statement}
+use Rattle.task.proofs.instruction.triple_at.Tie as tie
+use Rattle.task.proofs.instruction.triple_at.Reads as reads
+use Rattle.task.proofs.instruction.triple_at.Lts as lts
+use Rattle.records.proofs.numbers.byte_at.Reads as byte-at-reads
+
+returns : tie.Need-returns
+returns c = triple-missing _ _ (omega arith)
+
+byte-at-requires : tie.Need-byte-at-requires
+byte-at-requires c κs = search needs
+
+add-byte-at : tie.Need-add-byte-at
+add-byte-at c = search needs
+
+byte-at-requires-2 : tie.Need-byte-at-requires-2
+byte-at-requires-2 c κs = search needs
+
+add-byte-at-2 : tie.Need-add-byte-at-2
+add-byte-at-2 c = search needs
+
+byte-at-requires-3 : tie.Need-byte-at-requires-3
+byte-at-requires-3 c κs = search needs
+
+returns-2 : tie.Need-returns-2
+unfolding tripleAt
+returns-2 c = cc
+
+pub triple-at-spec : {M : Type 1} → statement M
+triple-at-spec =
+    tie.close
+    (tie.spec
+    returns
+    byte-at-requires
+    add-byte-at
+    byte-at-requires-2
+    add-byte-at-2
+    byte-at-requires-3
+    returns-2)

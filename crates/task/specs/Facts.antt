@@ -1,0 +1,30 @@
+-- Fact sets and literals. A fact set is a number of 8 bytes, bit f for fact f. A pair of fact sets states literals: the facts of the
+-- first are to be true, those of the second false. Question 6 asks whether all sets use bits below F and no pair names a fact twice.
+use Prim.Native.Nat.{ℕ, _+_, _*_, _^_}
+use mathlib.Core.List.{List}
+use mathlib.Core.Bool.{Bool, _&&_}
+use lib.Dec.{ltb, eqb}
+use lib.Bits.{bitAnd}
+use Rattle.records.specs.Numbers.{u64At}
+use Rattle.task.specs.First.{firstNo}
+use Rattle.task.specs.declared.facts.Literals.{Literals}
+
+-- the pair whose 16 bytes start at an offset
+unfoldable pub literalsAt : List ℕ → ℕ → Literals
+literalsAt bytes at = record { positive = u64At bytes at; negative = u64At bytes (at + 8) }
+
+-- a set uses bits below `facts` alone
+unfoldable pub within : ℕ → ℕ → Bool
+within facts set = ltb set (2 ^ facts)
+
+-- question 6 on one pair: both sets use bits below `facts`, and no fact is in both
+unfoldable pub consistent : ℕ → Literals → Bool
+consistent facts l = within facts (l .positive) && within facts (l .negative) && eqb (bitAnd (l .positive) (l .negative)) 0
+
+-- question 6 on the pair number k of those laid end to end from an offset
+unfoldable pub consistentAt : ℕ → List ℕ → ℕ → ℕ → Bool
+consistentAt facts bytes at k = consistent facts (literalsAt bytes (at + 16 * k))
+
+-- of `count` such pairs, how many stand before the first that fails question 6; `count` where none does
+unfoldable pub consistentPairs : ℕ → List ℕ → ℕ → ℕ → ℕ
+consistentPairs facts bytes at count = firstNo (consistentAt facts bytes at) count

@@ -1,0 +1,63 @@
+-- Instructions: three bytes op, p, q, the instruction that they spell, and the lines on which it is allowed.
+use Prim.Native.Nat.{ℕ, _+_}
+use mathlib.Core.List.{List}
+use mathlib.Core.Bool.{Bool, true, false, cond, _&&_}
+use lib.ListN.{set}
+use lib.Dec.{leb, ltb, eqb}
+use Rattle.records.specs.Numbers.{byteAt}
+use Rattle.task.specs.declared.bounds.Bounds.{Bounds}
+use Rattle.task.specs.declared.instruction.Triple.{Triple}
+use Rattle.task.specs.declared.instruction.Instruction.{Instruction}
+use Rattle.task.specs.declared.instruction.Instruction.the-variants.{Empty, Act, Goto, Call, End}
+use Rattle.task.specs.declared.instruction.Decoded.{Decoded}
+use Rattle.task.specs.declared.instruction.Decoded.the-variants.{Allowed, Forbidden}
+
+-- an answer kept where a condition holds
+unfoldable pub keep : Bool → Decoded → Decoded
+keep true d = d
+keep false d = Forbidden
+
+-- the instruction that three bytes spell: op 0 empty, 1 act, 2 goto, 3 call, 4 end; none for another op, or for a byte other than
+-- zero where zero is named
+unfoldable pub spelled : Triple → Decoded
+spelled w =
+    cond (eqb (w .op) 0) (keep (eqb (w .p) 0 && eqb (w .q) 0) (Allowed Empty))
+    (cond (eqb (w .op) 1) (keep (eqb (w .q) 0) (Allowed (Act (w .p))))
+    (cond (eqb (w .op) 2) (Allowed (Goto (record { 0 = w .p }) (w .q)))
+    (cond (eqb (w .op) 3) (keep (eqb (w .q) 0) (Allowed (Call (record { 0 = w .p }))))
+    (cond (eqb (w .op) 4) (keep (eqb (w .p) 0 && eqb (w .q) 0) (Allowed End))
+    Forbidden))))
+
+-- whether an instruction is allowed on a line of a task with these bounds and so many actions: act, goto and call stand on lines
+-- 0 to n - 1, end on lines 1 to n, empty on any line 0 to n; operands name an action, a line 0 to n, a fact below F, a procedure below b
+unfoldable pub allowed : Bounds → ℕ → ℕ → Instruction → Bool
+allowed b actions line Empty = leb line (b .last)
+allowed b actions line (Act action) = ltb line (b .last) && ltb action actions
+allowed b actions line (Goto target fact) = ltb line (b .last) && leb (target .0) (b .last) && ltb fact (b .facts)
+allowed b actions line (Call procedure) = ltb line (b .last) && ltb (procedure .0) (b .procedures)
+allowed b actions line End = leb 1 line && leb line (b .last)
+
+-- an instruction where it is allowed on the line
+unfoldable pub onLine : Bounds → ℕ → ℕ → Decoded → Decoded
+onLine b actions line (Allowed w) = keep (allowed b actions line w) (Allowed w)
+onLine b actions line Forbidden = Forbidden
+
+-- three bytes on a line: the instruction that they spell, if it is allowed there
+unfoldable pub decode : Bounds → ℕ → ℕ → Triple → Decoded
+decode b actions line w = onLine b actions line (spelled w)
+
+-- the three bytes of an instruction
+unfoldable pub encode : Instruction → Triple
+encode Empty = record { op = 0; p = 0; q = 0 }
+encode (Act action) = record { op = 1; p = action; q = 0 }
+encode (Goto target fact) = record { op = 2; p = target .0; q = fact }
+encode (Call procedure) = record { op = 3; p = procedure .0; q = 0 }
+encode End = record { op = 4; p = 0; q = 0 }
+
+-- the three bytes at an offset
+unfoldable pub tripleAt : List ℕ → ℕ → Triple
+tripleAt bytes at = record { op = byteAt bytes at; p = byteAt bytes (at + 1); q = byteAt bytes (at + 2) }
+
+-- bytes with these three at an offset
+unfoldable pub withTriple : List ℕ → ℕ → Triple → List ℕ
+withTriple bytes at w = set (set (set bytes at (w .op)) (at + 1) (w .p)) (at + 2) (w .q)

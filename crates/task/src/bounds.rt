@@ -1,0 +1,54 @@
+// A task's bounds, as its first record gives them.
+use records::numbers::u16_at;
+ghost use mathlib.Core.Path.{_≡_};
+ghost use Prim.Native.Nat.{_+_, _≤_};
+ghost use lib.ListN.{length};
+ghost use Rattle.task.specs.Bounds.{between, inRange, boundsAt, lineCount};
+
+// Facts F, procedures b, last line n, stack bound m and step bound S.
+pub struct Bounds {
+    pub facts: u8,
+    pub procedures: u8,
+    pub last: u8,
+    pub stack: u8,
+    pub steps: u16,
+}
+
+// The bounds whose six bytes start at an offset.
+pub(crate) fn bounds_at(bytes: &[u8], at: usize) -> Bounds
+    requires { ⌜ at + 6 ≤ length (now bytes) ⌝ }
+    ensures { λ r. ⌜ r ≡ boundsAt (now (bytes .entry)) at ⌝ }
+{
+    Bounds {
+        facts: bytes[at],
+        procedures: bytes[at + 1],
+        last: bytes[at + 2],
+        stack: bytes[at + 3],
+        steps: u16_at(bytes, at + 4),
+    }
+}
+
+// Whether a number is from low to high.
+fn between(low: u16, x: u16, high: u16) -> bool
+    ensures { λ r. ⌜ r ≡ between low x high ⌝ }
+{
+    (low <= x) & (x <= high)
+}
+
+// Question 5.
+pub fn in_range(b: Bounds) -> bool
+    ensures { λ r. ⌜ r ≡ inRange b ⌝ }
+{
+    between(1, b.facts as u16, 64)
+        & between(1, b.procedures as u16, 8)
+        & between(1, b.last as u16, 31)
+        & between(1, b.stack as u16, 16)
+        & between(1, b.steps, 4096)
+}
+
+// How many lines a program has.
+pub fn line_count(b: Bounds) -> usize
+    ensures { λ r. ⌜ r ≡ lineCount b ⌝ }
+{
+    b.procedures as usize * (b.last as usize + 1)
+}

@@ -1,0 +1,126 @@
+// Instructions: three bytes op, p, q, decoded on a line of a task and encoded back.
+use crate::bounds::Bounds;
+use records::numbers::byte_at;
+ghost use mathlib.Core.Path.{_≡_};
+ghost use lib.ListN.{set};
+ghost use Rattle.task.specs.Instruction.{keep, decode, encode, tripleAt, withTriple};
+ghost use Rattle.task.specs.declared.instruction.Decoded.the-variants.{Allowed};
+
+// A procedure's number.
+pub struct Proc(pub u8);
+
+// A line's number in its procedure.
+pub struct Line(pub u8);
+
+// An instruction's three bytes.
+pub struct Triple {
+    pub op: u8,
+    pub p: u8,
+    pub q: u8,
+}
+
+pub enum Instruction {
+    // No instruction.
+    Empty,
+    // Does an action.
+    Act(u8),
+    // Jumps to a line if a fact is false.
+    Goto(Line, u8),
+    // Calls a procedure.
+    Call(Proc),
+    // Ends the procedure.
+    End,
+}
+
+// Three bytes on a line: an instruction that is allowed there, or none.
+pub enum Decoded {
+    Allowed(Instruction),
+    Forbidden,
+}
+
+// An instruction, where its bytes are zero as named and it is allowed on its line.
+fn kept(zeros: bool, allowed: bool, w: Instruction) -> Decoded
+    ensures { λ r. ⌜ r ≡ keep zeros (keep allowed (Allowed w)) ⌝ }
+{
+    if zeros & allowed {
+        Decoded::Allowed(w)
+    } else {
+        Decoded::Forbidden
+    }
+}
+
+// The instruction that three bytes spell, if it is allowed on the line.
+pub fn decode(b: Bounds, actions: u8, line: Line, w: Triple) -> Decoded
+    ensures { λ r. ⌜ r ≡ decode b actions (line .0) w ⌝ }
+{
+    let before_last = line.0 < b.last;
+    let op = w.op;
+    match op {
+        0 => kept((w.p == 0) & (w.q == 0), line.0 <= b.last, Instruction::Empty),
+        1 => kept(w.q == 0, before_last & (w.p < actions), Instruction::Act(w.p)),
+        2 => kept(
+            true,
+            before_last & (w.p <= b.last) & (w.q < b.facts),
+            Instruction::Goto(Line(w.p), w.q),
+        ),
+        3 => kept(
+            w.q == 0,
+            before_last & (w.p < b.procedures),
+            Instruction::Call(Proc(w.p)),
+        ),
+        4 => kept(
+            (w.p == 0) & (w.q == 0),
+            (1 <= line.0) & (line.0 <= b.last),
+            Instruction::End,
+        ),
+        5..=255 => Decoded::Forbidden,
+    }
+}
+
+// The three bytes of an instruction.
+pub fn encode(w: Instruction) -> Triple
+    ensures { λ r. ⌜ r ≡ encode w ⌝ }
+{
+    match w {
+        Instruction::Empty => Triple { op: 0, p: 0, q: 0 },
+        Instruction::Act(action) => Triple { op: 1, p: action, q: 0 },
+        Instruction::Goto(target, fact) => Triple { op: 2, p: target.0, q: fact },
+        Instruction::Call(procedure) => Triple { op: 3, p: procedure.0, q: 0 },
+        Instruction::End => Triple { op: 4, p: 0, q: 0 },
+    }
+}
+
+// The three bytes at an offset.
+pub fn triple_at(bytes: &[u8], at: usize) -> Triple
+    ensures { λ r. ⌜ r ≡ tripleAt (now (bytes .entry)) at ⌝ }
+{
+    if bytes.len() <= at {
+        return Triple { op: 0, p: 0, q: 0 };
+    }
+    Triple {
+        op: byte_at(bytes, at),
+        p: byte_at(bytes, at + 1),
+        q: byte_at(bytes, at + 2),
+    }
+}
+
+// Writes a byte at an offset; past the end there is nothing to write.
+fn put(bytes: &mut [u8], at: usize, byte: u8)
+    ensures { λ _. ⌜ now (bytes .exit) ≡ set (now (bytes .entry)) at byte ⌝ }
+{
+    if at < bytes.len() {
+        bytes[at] = byte;
+    }
+}
+
+// Writes three bytes at an offset; what lies past the end is left out.
+pub fn put_triple(bytes: &mut [u8], at: usize, w: Triple)
+    ensures { λ _. ⌜ now (bytes .exit) ≡ withTriple (now (bytes .entry)) at w ⌝ }
+{
+    if bytes.len() <= at {
+        return;
+    }
+    put(bytes, at, w.op);
+    put(bytes, at + 1, w.p);
+    put(bytes, at + 2, w.q);
+}
