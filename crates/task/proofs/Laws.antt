@@ -3,3 +3,4 @@ pub mod Bounds
 pub mod Facts
 pub mod First
 pub mod Instruction
+pub mod Program

@@ -46,6 +46,10 @@ onLine b actions line Forbidden = Forbidden
 unfoldable pub decode : Bounds → ℕ → ℕ → Triple → Decoded
 decode b actions line w = onLine b actions line (spelled w)
 
+-- questions 7 and 15: three bytes for a line of a procedure, the procedure below b, the instruction allowed there and not empty
+unfoldable pub placed : Bounds → ℕ → ℕ → ℕ → Triple → Decoded
+placed b actions procedure line w = keep (ltb procedure (b .procedures) && ltb 0 (w .op)) (decode b actions line w)
+
 -- the three bytes of an instruction
 unfoldable pub encode : Instruction → Triple
 encode Empty = record { op = 0; p = 0; q = 0 }

@@ -47,8 +47,8 @@ pub fn in_range(b: Bounds) -> bool
 }
 
 // How many lines a program has.
-pub fn line_count(b: Bounds) -> usize
+pub fn line_count(b: Bounds) -> u16
     ensures { λ r. ⌜ r ≡ lineCount b ⌝ }
 {
-    b.procedures as usize * (b.last as usize + 1)
+    b.procedures as u16 * (b.last as u16 + 1)
 }

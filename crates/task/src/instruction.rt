@@ -3,7 +3,7 @@ use crate::bounds::Bounds;
 use records::numbers::byte_at;
 ghost use mathlib.Core.Path.{_≡_};
 ghost use lib.ListN.{set};
-ghost use Rattle.task.specs.Instruction.{keep, decode, encode, tripleAt, withTriple};
+ghost use Rattle.task.specs.Instruction.{keep, decode, placed, encode, tripleAt, withTriple};
 ghost use Rattle.task.specs.declared.instruction.Decoded.the-variants.{Allowed};
 
 // A procedure's number.
@@ -74,6 +74,18 @@ pub fn decode(b: Bounds, actions: u8, line: Line, w: Triple) -> Decoded
             Instruction::End,
         ),
         5..=255 => Decoded::Forbidden,
+    }
+}
+
+// Questions 7 and 15: the instruction that three bytes spell for a line of a procedure, if the procedure is below b and the
+// instruction allowed there and not empty.
+pub fn placed(b: Bounds, actions: u8, procedure: Proc, line: Line, w: Triple) -> Decoded
+    ensures { λ r. ⌜ r ≡ placed b actions (procedure .0) (line .0) w ⌝ }
+{
+    if (procedure.0 < b.procedures) & (0 < w.op) {
+        decode(b, actions, line, w)
+    } else {
+        Decoded::Forbidden
     }
 }
 

@@ -1,8 +1,20 @@
--- A program's lines are fewer than a word can count.
+-- A program's lines, and where they begin, are numbers that a word can hold: the bounds are bytes.
 -- Assumes nothing.
-use Prim.Native.Nat.{ℕ, _+_, _*_, _^_, _<_}
-use native.Mathlib.Nat.{mul-le-mul}
+use Prim.Native.Nat.{ℕ, _+_, _*_, _^_, _≤_, _<_}
+use native.Mathlib.Nat.{mul-le-mul, lt-of-le-of-lt, lt-of-lt-of-le}
+use lib.Dec.{lit<}
+use lib.Pow.{pow-mono}
 use native.Mathlib.Omega.{arith}
 
-pub lines-fit : (procedures last : ℕ) → procedures < 256 → last < 256 → procedures * (last + 1) < 2 ^ 64
-lines-fit procedures last h k = omega (arith, mul-le-mul {n₁ = procedures} {m₁ = last + 1} {n₂ = 255} {m₂ = 256} (omega arith) (omega arith))
+module _ (procedure last : ℕ) (h : procedure < 256) (k : last < 256) where
+  few : procedure * (last + 1) ≤ 65280
+  few = mul-le-mul {n₂ = 255} {m₂ = 256} (omega arith) (omega arith)
+
+  pub lines-fit : (bits : ℕ) → 16 ≤ bits → procedure * (last + 1) < 2 ^ bits
+  lines-fit bits wide = lt-of-le-of-lt few (lt-of-lt-of-le (lit< tt) (pow-mono wide))
+
+  pub line-fits : (line : ℕ) → line < 256 → procedure * (last + 1) + line < 2 ^ 64
+  line-fits line l = omega (arith, few)
+
+  pub offset-fits : (line : ℕ) → line < 256 → 3 * (procedure * (last + 1) + line) < 2 ^ 64
+  offset-fits line l = omega (arith, few)

@@ -21,6 +21,14 @@ use Rattle.task.specs.declared.instruction.Decoded.the-variants.{Allowed
 apart : (w : Instruction) → Allowed w ≡ Forbidden → ⊥
 apart w h = let z : _≡_ {A = ℕ} 0 1 = cc in omega arith
 
+pub keep-yes : (t : Bool) (d : Decoded) → t ≡ true → d ≡ keep t d
+unfolding keep
+keep-yes t d h = rw h
+
+pub keep-no : (t : Bool) (d : Decoded) → t ≡ false → Forbidden ≡ keep t d
+unfolding keep
+keep-no t d h = rw h
+
 pub kept-both : (zeros ok : Bool) (d : Decoded) → (zeros && ok) ≡ true → d ≡ keep zeros (keep ok d)
 unfolding keep
 kept-both true true d h = refl

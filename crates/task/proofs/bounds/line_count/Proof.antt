@@ -19,7 +19,7 @@ add-result : tie.Need-add-result
 add-result c = search needs
 
 mul-result : tie.Need-mul-result
-mul-result c = record { fits = lines-fit _ _ (omega arith) (omega arith) }
+mul-result c = record { fits = lines-fit _ _ (omega arith) (omega arith) 16 (omega arith) }
 
 returns : tie.Need-returns
 unfolding lineCount

@@ -1,0 +1,62 @@
+-- A program's verdict, question by question; and the number of a line in its procedure, as the lines are counted through all
+-- procedures: it grows by one, or starts again at 0.
+-- Assumes nothing.
+use Prim.Native.Nat.{ℕ, _+_, _*_, _%_, _≤_, _<_}
+use mathlib.Core.List.{List}
+use lib.ListN.{length}
+use mathlib.Core.Bool.{true, false}
+use lib.Dec.{eqb, ltb}
+use borrow.Author.Tests.{lt-ltb, le-ltb, eq-eqb, ne-eqb}
+use mathlib.Core.Path.{_≡_, sym, ap, _∙_}
+use native.Mathlib.Nat.{mod-lt, mod-add-mod, mod-eq-of-lt, mod-self}
+use native.Mathlib.Omega.{arith}
+use Rattle.task.specs.Bounds.{lineCount}
+use Rattle.task.specs.First.{firstNo}
+use Rattle.task.specs.Program.{lineAllowed, presetKept, unlessBelow, programVerdict}
+use Rattle.task.specs.Questions.{SIZE, LINES, PRESETS}
+use Rattle.task.specs.declared.index.Index.{Index}
+use Rattle.task.specs.declared.verdict.Verdict.the-variants.{Accepted, Refused}
+
+module _ (last k line : ℕ) (e : line ≡ k % (last + 1)) where
+  same-line : (line + 1) % (last + 1) ≡ (k + 1) % (last + 1)
+  same-line = rw e (mod-add-mod k (last + 1) 1)
+
+  pub line-next : line < last → line + 1 ≡ (k + 1) % (last + 1)
+  line-next h = sym (mod-eq-of-lt (omega arith)) ∙ same-line
+
+  pub line-again : last ≤ line → 0 ≡ (k + 1) % (last + 1)
+  line-again h =
+      let t : line ≡ last = omega (arith, mod-lt k {m = last + 1} (omega arith)) in
+      sym (rw t (mod-self (last + 1))) ∙ same-line
+
+-- `n` is the number of lines, `a` and `k` how many pass questions 26 and 27 before the first that does not
+module _ (i : Index) (presets program : List ℕ) (n : ℕ) (e : n ≡ lineCount (i .bounds)) where
+  pub size-no : (length program ≡ 3 * n → ⊥) → Refused SIZE 0 ≡ programVerdict i presets program
+  unfolding programVerdict
+  size-no h = simp (ne-eqb (length program) (3 * lineCount (i .bounds)) (λ (f : length program ≡ 3 * lineCount (i .bounds)). h (omega arith)))
+
+  module _ (s : length program ≡ 3 * n) (a : ℕ) (f : a ≡ firstNo (lineAllowed i program) (lineCount (i .bounds))) where
+    size-yes : eqb (length program) (3 * lineCount (i .bounds)) ≡ true
+    size-yes = eq-eqb (length program) (3 * lineCount (i .bounds)) (omega arith)
+
+    pub lines-no : a < n → Refused LINES (3 * a) ≡ programVerdict i presets program
+    unfolding programVerdict unlessBelow
+    lines-no h = rw f (simp (size-yes, lt-ltb (firstNo (lineAllowed i program) (lineCount (i .bounds))) (lineCount (i .bounds)) (omega arith)))
+
+    module _ (h : n ≤ a) (k : ℕ) (g : k ≡ firstNo (presetKept presets program) n) where
+      lines-yes : ltb (firstNo (lineAllowed i program) (lineCount (i .bounds))) (lineCount (i .bounds)) ≡ false
+      lines-yes = le-ltb (firstNo (lineAllowed i program) (lineCount (i .bounds))) (lineCount (i .bounds)) (omega arith)
+
+      here : k ≡ firstNo (presetKept presets program) (lineCount (i .bounds))
+      here = g ∙ ap (firstNo (presetKept presets program)) e
+
+      pub presets-no : k < n → Refused PRESETS (3 * k) ≡ programVerdict i presets program
+      unfolding programVerdict unlessBelow
+      presets-no l =
+          rw here
+          (simp (size-yes, lines-yes, lt-ltb (firstNo (presetKept presets program) (lineCount (i .bounds))) (lineCount (i .bounds)) (omega (arith, here))))
+
+      pub program-good : n ≤ k → Accepted 0 ≡ programVerdict i presets program
+      unfolding programVerdict unlessBelow
+      program-good l =
+          simp (size-yes, lines-yes, le-ltb (firstNo (presetKept presets program) (lineCount (i .bounds))) (lineCount (i .bounds)) (omega (arith, here)))

@@ -1,0 +1,96 @@
+-- `task::program::allowed_lines` meets its contract: it is the search for the first line that is not allowed. The line's number in its
+-- procedure is counted along.
+-- Assumes nothing.
+use Prim.Native.Nat.{_+_, _-_, _%_}
+use mathlib.Core.Path.{_≡_, sym, ap, _∙_}
+use native.Mathlib.Nat.{mod-eq-of-lt}
+use native.Mathlib.Omega.{arith}
+use borrow.Author.Needs.{needs}
+use Rattle.task.specs.First.{firstNo}
+use Rattle.task.specs.Program.{lineAllowed}
+use Rattle.task.proofs.Laws.First.{Searching, searching, found-yes, found-no, found-none}
+use Rattle.task.proofs.Laws.Program.{line-next, line-again}
+use Rattle.task.proofs.program.allowed_lines.Statement.{statement}
+use Rattle.task.proofs.program.allowed_lines.Tie as tie
+use Rattle.task.proofs.program.allowed_lines.Reads as reads
+use Rattle.task.proofs.program.allowed_lines.Lts as lts
+use Rattle.task.proofs.bounds.line_count.Reads as line-count-reads
+use Rattle.task.proofs.instruction.decode.Reads as decode-reads
+use Rattle.task.proofs.instruction.triple_at.Reads as triple-at-reads
+use Rattle.task.proofs.program.decodes.Reads as decodes-reads
+
+abbrev Inv-loop : tie.InvT-loop
+Inv-loop index program bounds last count k₀ line₀ k line = Searching (lineAllowed index program) count k × (line ≡ k % (last + 1))
+
+abbrev μ-loop : tie.MeasureT-loop
+μ-loop index program bounds last count k₀ line₀ k line = count - k
+
+line-count-requires : tie.Need-line-count-requires Inv-loop μ-loop
+line-count-requires c κs = search needs
+
+cast-count : tie.Need-cast-count Inv-loop μ-loop
+cast-count c = search needs
+
+loop-holds : tie.Need-loop-holds Inv-loop μ-loop
+loop-holds c = (searching _ _, sym (mod-eq-of-lt (omega arith)))
+
+mul-triple-at : tie.Need-mul-triple-at Inv-loop μ-loop
+mul-triple-at c = search needs
+
+triple-at-requires : tie.Need-triple-at-requires Inv-loop μ-loop
+triple-at-requires c κs = search needs
+
+decode-requires : tie.Need-decode-requires Inv-loop μ-loop
+decode-requires c κs = search needs
+
+decodes-requires : tie.Need-decodes-requires Inv-loop μ-loop
+decodes-requires c κs = search needs
+
+add-k : tie.Need-add-k Inv-loop μ-loop
+add-k c = search needs
+
+add-line : tie.Need-add-line Inv-loop μ-loop
+add-line c = search needs
+
+loop-less : tie.Need-loop-less Inv-loop μ-loop
+loop-less c = search needs
+
+loop-again : tie.Need-loop-again Inv-loop μ-loop
+unfolding lineAllowed
+loop-again c = (found-yes _ _ _ (c .before .before .before .before .before .before .loop .inv .0) (search needs) (cc), line-next _ _ _ (c .before .before .before .before .before .before .loop .inv .1) (c .if2 .taken))
+
+loop-less-2 : tie.Need-loop-less-2 Inv-loop μ-loop
+loop-less-2 c = search needs
+
+loop-again-2 : tie.Need-loop-again-2 Inv-loop μ-loop
+unfolding lineAllowed
+loop-again-2 c = (found-yes _ _ _ (c .before .before .before .before .before .before .loop .inv .0) (search needs) (cc), line-again _ _ _ (c .before .before .before .before .before .before .loop .inv .1) (c .if2 .left))
+
+returns : tie.Need-returns Inv-loop μ-loop
+unfolding lineAllowed
+returns c = found-no _ _ _ (c .before .before .before .before .before .loop .inv .0) (search needs) (cc) ∙ ap (firstNo _) (c .before .before .before .before .before .before .line-count .ensures)
+
+returns-2 : tie.Need-returns-2 Inv-loop μ-loop
+returns-2 c = found-none _ _ _ (c .before .loop .inv .0) (search needs) ∙ ap (firstNo _) (c .before .before .line-count .ensures)
+
+pub allowed-lines-spec : {M : Type 1} → statement M
+allowed-lines-spec =
+    tie.close
+    (tie.spec
+    Inv-loop
+    μ-loop
+    line-count-requires
+    cast-count
+    loop-holds
+    mul-triple-at
+    triple-at-requires
+    decode-requires
+    decodes-requires
+    add-k
+    add-line
+    loop-less
+    loop-again
+    loop-less-2
+    loop-again-2
+    returns
+    returns-2)

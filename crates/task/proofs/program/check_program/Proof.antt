@@ -1,0 +1,61 @@
+-- `task::program::check_program` meets its contract, question by question.
+-- Assumes nothing.
+use borrow.Author.Needs.{needs}
+use native.Mathlib.Omega.{arith}
+use Rattle.task.proofs.Laws.Program.{size-no, lines-no, presets-no, program-good}
+use Rattle.task.proofs.program.check_program.Statement.{statement}
+use Rattle.task.proofs.program.check_program.Tie as tie
+use Rattle.task.proofs.program.check_program.Reads as reads
+use Rattle.task.proofs.program.check_program.Lts as lts
+use Rattle.task.proofs.bounds.line_count.Reads as line-count-reads
+use Rattle.task.proofs.program.allowed_lines.Reads as allowed-lines-reads
+use Rattle.task.proofs.program.kept_presets.Reads as kept-presets-reads
+
+line-count-requires : tie.Need-line-count-requires
+line-count-requires c κs = search needs
+
+cast-count : tie.Need-cast-count
+cast-count c = search needs
+
+mul-if1 : tie.Need-mul-if1
+mul-if1 c = search needs
+
+returns : tie.Need-returns
+returns c = size-no _ _ _ _ (c .before .line-count .ensures) (c .if1 .taken)
+
+allowed-lines-requires : tie.Need-allowed-lines-requires
+allowed-lines-requires c κs = search needs
+
+mul-t12 : tie.Need-mul-t12
+mul-t12 c = search needs
+
+returns-2 : tie.Need-returns-2
+returns-2 c = lines-no _ _ _ _ (c .before .before .before .line-count .ensures) (c .before .before .if1 .left) _ (c .before .allowed-lines .ensures) (c .if2 .taken)
+
+kept-presets-requires : tie.Need-kept-presets-requires
+kept-presets-requires c κs = search needs
+
+mul-t13 : tie.Need-mul-t13
+mul-t13 c = search needs
+
+returns-3 : tie.Need-returns-3
+returns-3 c = presets-no _ _ _ _ (c .before .before .before .before .before .line-count .ensures) (c .before .before .before .before .if1 .left) _ (c .before .before .before .allowed-lines .ensures) (c .before .before .if2 .left) _ (c .before .kept-presets .ensures) (c .if3 .taken)
+
+returns-4 : tie.Need-returns-4
+returns-4 c = program-good _ _ _ _ (c .before .before .before .before .before .line-count .ensures) (c .before .before .before .before .if1 .left) _ (c .before .before .before .allowed-lines .ensures) (c .before .before .if2 .left) _ (c .before .kept-presets .ensures) (c .if3 .left)
+
+pub check-program-spec : {M : Type 1} → statement M
+check-program-spec =
+    tie.close
+    (tie.spec
+    line-count-requires
+    cast-count
+    mul-if1
+    returns
+    allowed-lines-requires
+    mul-t12
+    returns-2
+    kept-presets-requires
+    mul-t13
+    returns-3
+    returns-4)

@@ -1,0 +1,25 @@
+-- `task::program::decodes` meets its contract, variant by variant.
+-- Assumes nothing.
+use borrow.Author.Needs.{needs}
+use Rattle.task.specs.Program.{decodes}
+use Rattle.task.proofs.program.decodes.Statement.{statement}
+use Rattle.task.proofs.program.decodes.Tie as tie
+use Rattle.task.proofs.program.decodes.Reads as reads
+use Rattle.task.proofs.program.decodes.Lts as lts
+
+enum-told : tie.Need-enum-told
+enum-told c = search needs
+
+enum-told-2 : tie.Need-enum-told-2
+enum-told-2 c = search needs
+
+returns : tie.Need-returns
+unfolding decodes
+returns c = cc
+
+returns-2 : tie.Need-returns-2
+unfolding decodes
+returns-2 c = cc
+
+pub decodes-spec : {M : Type 1} → statement M
+decodes-spec = tie.close (tie.spec enum-told enum-told-2 returns returns-2)

@@ -1,0 +1,52 @@
+-- `task::program::kept_presets` meets its contract: it is the search for the first preset line that does not hold its preset.
+-- Assumes nothing.
+use Prim.Native.Nat.{_-_}
+use borrow.Author.Needs.{needs}
+use Rattle.task.specs.Program.{presetKept}
+use Rattle.task.proofs.Laws.First.{Searching, searching, found-yes, found-no, found-none}
+use Rattle.task.proofs.program.kept_presets.Statement.{statement}
+use Rattle.task.proofs.program.kept_presets.Tie as tie
+use Rattle.task.proofs.program.kept_presets.Reads as reads
+use Rattle.task.proofs.program.kept_presets.Lts as lts
+use Rattle.task.proofs.program.preset_kept.Reads as preset-kept-reads
+
+abbrev Inv-loop : tie.InvT-loop
+Inv-loop count presets program k₀ k = Searching (presetKept presets program) count k
+
+abbrev μ-loop : tie.MeasureT-loop
+μ-loop count presets program k₀ k = count - k
+
+loop-holds : tie.Need-loop-holds Inv-loop μ-loop
+loop-holds c = searching _ _
+
+preset-kept-requires : tie.Need-preset-kept-requires Inv-loop μ-loop
+preset-kept-requires c κs = search needs
+
+add-k : tie.Need-add-k Inv-loop μ-loop
+add-k c = search needs
+
+loop-less : tie.Need-loop-less Inv-loop μ-loop
+loop-less c = search needs
+
+loop-again : tie.Need-loop-again Inv-loop μ-loop
+loop-again c = found-yes _ _ _ (c .before .before .before .loop .inv) (search needs) (cc)
+
+returns : tie.Need-returns Inv-loop μ-loop
+returns c = found-no _ _ _ (c .before .before .before .loop .inv) (search needs) (cc)
+
+returns-2 : tie.Need-returns-2 Inv-loop μ-loop
+returns-2 c = found-none _ _ _ (c .before .loop .inv) (search needs)
+
+pub kept-presets-spec : {M : Type 1} → statement M
+kept-presets-spec =
+    tie.close
+    (tie.spec
+    Inv-loop
+    μ-loop
+    loop-holds
+    preset-kept-requires
+    add-k
+    loop-less
+    loop-again
+    returns
+    returns-2)

@@ -1,0 +1,40 @@
+-- `task::program::preset_kept` meets its contract.
+-- Assumes nothing.
+use borrow.Author.Needs.{needs}
+use Rattle.task.specs.Program.{presetKept}
+use Rattle.task.proofs.program.preset_kept.Statement.{statement}
+use Rattle.task.proofs.program.preset_kept.Tie as tie
+use Rattle.task.proofs.program.preset_kept.Reads as reads
+use Rattle.task.proofs.program.preset_kept.Lts as lts
+use Rattle.task.proofs.instruction.triple_at.Reads as triple-at-reads
+use Rattle.task.proofs.program.same_triple.Reads as same-triple-reads
+
+mul-triple-at : tie.Need-mul-triple-at
+mul-triple-at c = search needs
+
+triple-at-requires : tie.Need-triple-at-requires
+triple-at-requires c κs = search needs
+
+mul-triple-at-2 : tie.Need-mul-triple-at-2
+mul-triple-at-2 c = search needs
+
+triple-at-requires-2 : tie.Need-triple-at-requires-2
+triple-at-requires-2 c κs = search needs
+
+same-triple-requires : tie.Need-same-triple-requires
+same-triple-requires c κs = search needs
+
+returns : tie.Need-returns
+unfolding presetKept
+returns c = cc
+
+pub preset-kept-spec : {M : Type 1} → statement M
+preset-kept-spec =
+    tie.close
+    (tie.spec
+    mul-triple-at
+    triple-at-requires
+    mul-triple-at-2
+    triple-at-requires-2
+    same-triple-requires
+    returns)

@@ -1,0 +1,120 @@
+// A program's own questions: its length, its lines and its presets.
+use crate::bounds::Bounds;
+use crate::bounds::line_count;
+use crate::index::Index;
+use crate::instruction::Decoded;
+use crate::instruction::Line;
+use crate::instruction::Proc;
+use crate::instruction::Triple;
+use crate::instruction::decode;
+use crate::instruction::triple_at;
+use crate::questions::LINES;
+use crate::questions::PRESETS;
+use crate::questions::SIZE;
+use crate::verdict::Verdict;
+ghost use mathlib.Core.Path.{_≡_};
+ghost use Prim.Native.Nat.{_+_, _*_, _≤_};
+ghost use lib.ListN.{length};
+ghost use Rattle.task.specs.Bounds.{lineCount};
+ghost use Rattle.task.specs.First.{firstNo};
+ghost use Rattle.task.specs.Program.{lineOffset, decodes, lineAllowed, sameTriple, presetKept, programVerdict};
+
+// Where a line of a procedure begins in a program.
+pub fn line_offset(b: Bounds, procedure: Proc, line: Line) -> usize
+    ensures { λ r. ⌜ r ≡ lineOffset b (procedure .0) (line .0) ⌝ }
+{
+    3 * (procedure.0 as usize * (b.last as usize + 1) + line.0 as usize)
+}
+
+// Whether three bytes decoded to an instruction.
+fn decodes(d: Decoded) -> bool
+    ensures { λ r. ⌜ r ≡ decodes d ⌝ }
+{
+    match d {
+        Decoded::Allowed(_) => true,
+        Decoded::Forbidden => false,
+    }
+}
+
+// Whether two instructions of three bytes are the same.
+fn same_triple(v: Triple, w: Triple) -> bool
+    ensures { λ r. ⌜ r ≡ sameTriple v w ⌝ }
+{
+    (v.op == w.op) & (v.p == w.p) & (v.q == w.q)
+}
+
+// Question 27 on one line.
+fn preset_kept(presets: &[u8], program: &[u8], k: usize) -> bool
+    requires { ⌜ 3 * k ≤ length (now program) ⌝ }
+    ensures { λ r. ⌜ r ≡ presetKept (now (presets .entry)) (now (program .entry)) k ⌝ }
+{
+    let preset = triple_at(presets, 3 * k);
+    let line = triple_at(program, 3 * k);
+    (preset.op == 0) | same_triple(preset, line)
+}
+
+// How many lines stand before the first that question 26 turns down.
+fn allowed_lines(index: Index, program: &[u8]) -> usize
+    requires { ⌜ 3 * lineCount (index .bounds) ≤ length (now program) ⌝ }
+    ensures { λ r. ⌜ r ≡ firstNo (lineAllowed index (now (program .entry))) (lineCount (index .bounds)) ⌝ }
+{
+    let bounds = index.bounds;
+    let last = bounds.last;
+    let count = line_count(bounds) as usize;
+    let mut k = 0;
+    let mut line = 0;
+    while k < count {
+        if decodes(decode(bounds, index.actions, Line(line), triple_at(program, 3 * k))) {
+            k += 1;
+            line = if line < last { line + 1 } else { 0 };
+        } else {
+            return k;
+        }
+    }
+    k
+}
+
+// How many lines stand before the first that question 27 turns down.
+fn kept_presets(count: usize, presets: &[u8], program: &[u8]) -> usize
+    requires { ⌜ 3 * count ≤ length (now program) ⌝ }
+    ensures { λ r. ⌜ r ≡ firstNo (presetKept (now (presets .entry)) (now (program .entry))) count ⌝ }
+{
+    let mut k = 0;
+    while k < count {
+        if preset_kept(presets, program, k) {
+            k += 1;
+        } else {
+            return k;
+        }
+    }
+    k
+}
+
+// Questions 25 to 27.
+pub fn check_program(index: Index, presets: &[u8], program: &[u8]) -> Verdict
+    ensures { λ r. ⌜ r ≡ programVerdict index (now (presets .entry)) (now (program .entry)) ⌝ }
+{
+    let bounds = index.bounds;
+    let count = line_count(bounds) as usize;
+    if program.len() != 3 * count {
+        return Verdict::Refused {
+            question: SIZE,
+            place: 0,
+        };
+    }
+    let allowed = allowed_lines(index, program);
+    if allowed < count {
+        return Verdict::Refused {
+            question: LINES,
+            place: 3 * allowed,
+        };
+    }
+    let kept = kept_presets(count, presets, program);
+    if kept < count {
+        return Verdict::Refused {
+            question: PRESETS,
+            place: 3 * kept,
+        };
+    }
+    Verdict::Accepted { value: 0 }
+}
