@@ -4,3 +4,5 @@ pub mod Facts
 pub mod First
 pub mod Instruction
 pub mod Program
+pub mod Reading
+pub mod Turns

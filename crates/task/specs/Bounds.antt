@@ -15,7 +15,7 @@ boundsAt bytes at =
       procedures = byteAt bytes (at + 1);
       last = byteAt bytes (at + 2);
       stack = byteAt bytes (at + 3);
-      steps = u16At bytes (at + 4)
+      steps = u16At bytes (at + 4);
     }
 
 -- a number from `low` to `high`

@@ -6,3 +6,4 @@ pub mod Instruction
 pub mod Program
 pub mod Questions
 pub mod Verdict
+pub mod Reading

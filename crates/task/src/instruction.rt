@@ -56,8 +56,16 @@ pub fn decode(b: Bounds, actions: u8, line: Line, w: Triple) -> Decoded
     let before_last = line.0 < b.last;
     let op = w.op;
     match op {
-        0 => kept((w.p == 0) & (w.q == 0), line.0 <= b.last, Instruction::Empty),
-        1 => kept(w.q == 0, before_last & (w.p < actions), Instruction::Act(w.p)),
+        0 => kept(
+            (w.p == 0) & (w.q == 0),
+            line.0 <= b.last,
+            Instruction::Empty,
+        ),
+        1 => kept(
+            w.q == 0,
+            before_last & (w.p < actions),
+            Instruction::Act(w.p),
+        ),
         2 => kept(
             true,
             before_last & (w.p <= b.last) & (w.q < b.facts),
@@ -95,9 +103,21 @@ pub fn encode(w: Instruction) -> Triple
 {
     match w {
         Instruction::Empty => Triple { op: 0, p: 0, q: 0 },
-        Instruction::Act(action) => Triple { op: 1, p: action, q: 0 },
-        Instruction::Goto(target, fact) => Triple { op: 2, p: target.0, q: fact },
-        Instruction::Call(procedure) => Triple { op: 3, p: procedure.0, q: 0 },
+        Instruction::Act(action) => Triple {
+            op: 1,
+            p: action,
+            q: 0,
+        },
+        Instruction::Goto(target, fact) => Triple {
+            op: 2,
+            p: target.0,
+            q: fact,
+        },
+        Instruction::Call(procedure) => Triple {
+            op: 3,
+            p: procedure.0,
+            q: 0,
+        },
         Instruction::End => Triple { op: 4, p: 0, q: 0 },
     }
 }

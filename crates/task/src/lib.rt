@@ -5,4 +5,5 @@ pub mod index;
 pub mod instruction;
 pub mod program;
 pub mod questions;
+pub mod reading;
 pub mod verdict;

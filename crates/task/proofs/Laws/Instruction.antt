@@ -10,6 +10,7 @@ use lib.Dec.{eqb}
 use borrow.Author.Tests.{ne-eqb, eqb-true}
 use native.Mathlib.Omega.{arith}
 use Rattle.records.proofs.Laws.Numbers.{byte-missing}
+use Rattle.records.proofs.Laws.Tests.{both-true}
 use Rattle.task.specs.Instruction.{keep, spelled, allowed, onLine, decode, encode, tripleAt, withTriple}
 use Rattle.task.specs.declared.bounds.Bounds.{Bounds}
 use Rattle.task.specs.declared.instruction.Triple.{Triple}
@@ -78,8 +79,13 @@ module _ (b : Bounds) (actions line : ℕ) where
     pub decode-other : 5 ≤ w .op → Forbidden ≡ decode b actions line w
     unfolding decode spelled onLine
     decode-other h =
-        simp (ne-eqb (w .op) 0 (omega arith), ne-eqb (w .op) 1 (omega arith), ne-eqb (w .op) 2 (omega arith),
-              ne-eqb (w .op) 3 (omega arith), ne-eqb (w .op) 4 (omega arith))
+        simp (
+          ne-eqb (w .op) 0 (omega arith),
+          ne-eqb (w .op) 1 (omega arith),
+          ne-eqb (w .op) 2 (omega arith),
+          ne-eqb (w .op) 3 (omega arith),
+          ne-eqb (w .op) 4 (omega arith),
+        )
 
   pub decode-encode : (w : Instruction) → allowed b actions line w ≡ true → decode b actions line (encode w) ≡ Allowed w
   unfolding decode spelled onLine encode keep
@@ -88,10 +94,6 @@ module _ (b : Bounds) (actions line : ℕ) where
   decode-encode (Goto target fact) h = rw h
   decode-encode (Call procedure) h = rw h
   decode-encode End h = simp h
-
-both-true : (a c : Bool) → (a && c) ≡ true → (a ≡ true) × (c ≡ true)
-both-true true c h = (refl, h)
-both-true false c h = absurd (false≢true h)
 
 triple-is : (t : Triple) {op p q : ℕ} → op ≡ t .op → p ≡ t .p → q ≡ t .q → record { op = op; p = p; q = q } ≡ t
 triple-is t e f g = λ i. record { op = e i; p = f i; q = g i }

@@ -1,0 +1,58 @@
+-- `task::reading::may_stand` meets its contract, section by section.
+-- Assumes nothing.
+use borrow.Author.Needs.{needs}
+use Rattle.task.specs.Reading.{mayStand}
+use Rattle.task.proofs.reading.may_stand.Statement.{statement}
+use Rattle.task.proofs.reading.may_stand.Tie as tie
+use Rattle.task.proofs.reading.may_stand.Reads as reads
+use Rattle.task.proofs.reading.may_stand.Lts as lts
+
+enum-told : tie.Need-enum-told
+enum-told c = search needs
+
+enum-told-2 : tie.Need-enum-told-2
+enum-told-2 c = search needs
+
+enum-told-3 : tie.Need-enum-told-3
+enum-told-3 c = search needs
+
+enum-told-4 : tie.Need-enum-told-4
+enum-told-4 c = search needs
+
+enum-told-5 : tie.Need-enum-told-5
+enum-told-5 c = search needs
+
+returns : tie.Need-returns
+unfolding mayStand
+returns c = cc
+
+returns-2 : tie.Need-returns-2
+unfolding mayStand
+returns-2 c = cc
+
+returns-3 : tie.Need-returns-3
+unfolding mayStand
+returns-3 c = cc
+
+returns-4 : tie.Need-returns-4
+unfolding mayStand
+returns-4 c = cc
+
+returns-5 : tie.Need-returns-5
+unfolding mayStand
+returns-5 c = cc
+
+pub may-stand-spec : {M : Type 1} → statement M
+may-stand-spec =
+    tie.close
+    (tie.spec
+    enum-told
+    enum-told-2
+    enum-told-3
+    enum-told-4
+    enum-told-5
+    returns
+    returns-2
+    returns-3
+    returns-4
+    returns-5)

@@ -1,0 +1,59 @@
+-- `task::reading::read_case` meets its contract: questions 4 and 6 decide.
+-- Assumes nothing.
+use borrow.Author.Needs.{needs}
+use native.Mathlib.Omega.{arith}
+use Rattle.task.proofs.Laws.Reading.{case-full, case-no, case-yes}
+use Rattle.task.proofs.reading.read_case.Statement.{statement}
+use Rattle.task.proofs.reading.read_case.Tie as tie
+use Rattle.task.proofs.reading.read_case.Reads as reads
+use Rattle.task.proofs.reading.read_case.Lts as lts
+use Rattle.records.proofs.numbers.u64_at.Reads as u64-at-reads
+use Rattle.task.proofs.facts.consistent.Reads as consistent-reads
+use Rattle.task.proofs.facts.literals_at.Reads as literals-at-reads
+use Rattle.task.proofs.facts.within.Reads as within-reads
+use Rattle.task.proofs.reading.first_case.Reads as first-case-reads
+
+returns : tie.Need-returns
+returns c = λ o q. case-full _ _ _ _ o q (c .if1 .taken)
+
+u64-at-requires : tie.Need-u64-at-requires
+u64-at-requires c κs = search needs
+
+within-requires : tie.Need-within-requires
+within-requires c κs = search needs
+
+add-literals-at : tie.Need-add-literals-at
+add-literals-at c = search needs
+
+literals-at-requires : tie.Need-literals-at-requires
+literals-at-requires c κs = search needs
+
+consistent-requires : tie.Need-consistent-requires
+consistent-requires c κs = search needs
+
+add-t17 : tie.Need-add-t17
+add-t17 c = search needs
+
+first-case-requires : tie.Need-first-case-requires
+first-case-requires c κs = search needs
+
+returns-2 : tie.Need-returns-2
+returns-2 c = λ o q. case-yes _ _ _ _ o q (omega arith) _ _ _ _ (c .before .before .before .before .before .before .u64-at .ensures) (c .before .before .before .before .literals-at .ensures) (c .before .before .before .before .before .within .ensures) (c .before .before .before .consistent .ensures) _ (c .first-case .ensures) (c .before .before .if2 .taken)
+
+returns-3 : tie.Need-returns-3
+returns-3 c = λ o q. case-no _ _ _ _ o q (omega arith) _ _ _ _ (c .before .before .before .before .u64-at .ensures) (c .before .before .literals-at .ensures) (c .before .before .before .within .ensures) (c .before .consistent .ensures) (c .if2 .left)
+
+pub read-case-spec : {M : Type 1} → statement M
+read-case-spec =
+    tie.close
+    (tie.spec
+    returns
+    u64-at-requires
+    within-requires
+    add-literals-at
+    literals-at-requires
+    consistent-requires
+    add-t17
+    first-case-requires
+    returns-2
+    returns-3)

@@ -1,0 +1,89 @@
+-- `task::reading::read_preset` meets its contract: questions 7 and 8 decide, and the line is put where it belongs.
+-- Assumes nothing.
+use borrow.Author.Needs.{needs}
+use mathlib.Core.Path.{ap, _∙_}
+use Rattle.task.specs.Instruction.{withTriple}
+use Rattle.task.proofs.Laws.Reading.{preset-no, preset-again, preset-yes}
+use Rattle.task.proofs.reading.read_preset.Statement.{statement}
+use Rattle.task.proofs.reading.read_preset.Tie as tie
+use Rattle.task.proofs.reading.read_preset.Reads as reads
+use Rattle.task.proofs.reading.read_preset.Lts as lts
+use Rattle.records.proofs.numbers.byte_at.Reads as byte-at-reads
+use Rattle.task.proofs.instruction.encode.Reads as encode-reads
+use Rattle.task.proofs.instruction.placed.Reads as placed-reads
+use Rattle.task.proofs.instruction.put_triple.Reads as put-triple-reads
+use Rattle.task.proofs.instruction.triple_at.Reads as triple-at-reads
+use Rattle.task.proofs.program.line_offset.Reads as line-offset-reads
+
+byte-at-requires : tie.Need-byte-at-requires
+byte-at-requires c κs = search needs
+
+add-byte-at : tie.Need-add-byte-at
+add-byte-at c = search needs
+
+byte-at-requires-2 : tie.Need-byte-at-requires-2
+byte-at-requires-2 c κs = search needs
+
+add-triple-at : tie.Need-add-triple-at
+add-triple-at c = search needs
+
+triple-at-requires : tie.Need-triple-at-requires
+triple-at-requires c κs = search needs
+
+placed-requires : tie.Need-placed-requires
+placed-requires c κs = search needs
+
+enum-known-decoded : tie.Need-enum-known-decoded
+enum-known-decoded c = search needs
+
+enum-told : tie.Need-enum-told
+enum-told c = search needs
+
+returns : tie.Need-returns
+returns c = λ o. preset-no _ _ _ _ o _ _ _ _ _ (c .before .before .before .before .before .byte-at .ensures) (c .before .before .before .before .byte-at2 .ensures) (c .before .before .before .triple-at .ensures) (c .before .before .placed .ensures) (c .enum-told .given .1)
+
+line-offset-requires : tie.Need-line-offset-requires
+line-offset-requires c κs = search needs
+
+byte-at-requires-3 : tie.Need-byte-at-requires-3
+byte-at-requires-3 c κs = search needs
+
+same-length : tie.Need-same-length
+same-length c = search needs
+
+returns-2 : tie.Need-returns-2
+returns-2 c = λ o. preset-again _ _ _ _ o _ _ _ _ _ (c .before .before .before .before .before .before .before .before .before .before .byte-at .ensures) (c .before .before .before .before .before .before .before .before .before .byte-at2 .ensures) (c .before .before .before .before .before .before .before .before .triple-at .ensures) (c .before .before .before .before .before .before .before .placed .ensures) _ (c .before .before .before .before .before .decoded .given .1) _ _ (c .before .before .before .line-offset .ensures) (c .before .byte-at3 .ensures) (c .if1 .taken)
+
+encode-requires : tie.Need-encode-requires
+encode-requires c κs = search needs
+
+put-triple-requires : tie.Need-put-triple-requires
+put-triple-requires c κs = search needs
+
+same-length-2 : tie.Need-same-length-2
+same-length-2 c = search needs
+
+returns-3 : tie.Need-returns-3
+returns-3 c = λ o. preset-yes _ _ _ _ o _ _ _ _ _ (c .before .before .before .before .before .before .before .before .before .before .before .before .before .before .before .byte-at .ensures) (c .before .before .before .before .before .before .before .before .before .before .before .before .before .before .byte-at2 .ensures) (c .before .before .before .before .before .before .before .before .before .before .before .before .before .triple-at .ensures) (c .before .before .before .before .before .before .before .before .before .before .before .before .placed .ensures) _ (c .before .before .before .before .before .before .before .before .before .before .decoded .given .1) _ _ (c .before .before .before .before .before .before .before .before .line-offset .ensures) (c .before .before .before .before .before .before .byte-at3 .ensures) _ (c .before .before .put-triple .ensures ∙ ap (withTriple _ _) (c .before .before .before .encode .ensures)) (c .before .before .before .before .before .if1 .left)
+
+pub read-preset-spec : {M : Type 1} → statement M
+read-preset-spec =
+    tie.close
+    (tie.spec
+    byte-at-requires
+    add-byte-at
+    byte-at-requires-2
+    add-triple-at
+    triple-at-requires
+    placed-requires
+    enum-known-decoded
+    enum-told
+    returns
+    line-offset-requires
+    byte-at-requires-3
+    same-length
+    returns-2
+    encode-requires
+    put-triple-requires
+    same-length-2
+    returns-3)
