@@ -36,7 +36,7 @@ fn between(low: u16, x: u16, high: u16) -> bool
 }
 
 // Question 5.
-pub fn in_range(b: Bounds) -> bool
+pub(crate) fn in_range(b: Bounds) -> bool
     ensures { λ r. ⌜ r ≡ inRange b ⌝ }
 {
     between(1, b.facts as u16, 64)
@@ -47,7 +47,7 @@ pub fn in_range(b: Bounds) -> bool
 }
 
 // How many lines a program has.
-pub fn line_count(b: Bounds) -> u16
+pub(crate) fn line_count(b: Bounds) -> u16
     ensures { λ r. ⌜ r ≡ lineCount b ⌝ }
 {
     b.procedures as u16 * (b.last as u16 + 1)

@@ -12,7 +12,7 @@ pub struct Literals {
 }
 
 // The pair whose 16 bytes start at an offset.
-pub fn literals_at(bytes: &[u8], at: usize) -> Literals
+pub(crate) fn literals_at(bytes: &[u8], at: usize) -> Literals
     ensures { λ r. ⌜ r ≡ literalsAt (now (bytes .entry)) at ⌝ }
 {
     if bytes.len() < at {
@@ -28,7 +28,7 @@ pub fn literals_at(bytes: &[u8], at: usize) -> Literals
 }
 
 // Whether a set uses bits below `facts` alone.
-pub fn within(facts: u8, set: u64) -> bool
+pub(crate) fn within(facts: u8, set: u64) -> bool
     ensures { λ r. ⌜ r ≡ within facts set ⌝ }
 {
     if 64 <= facts {
@@ -38,7 +38,7 @@ pub fn within(facts: u8, set: u64) -> bool
 }
 
 // Question 6 on one pair.
-pub fn consistent(facts: u8, literals: Literals) -> bool
+pub(crate) fn consistent(facts: u8, literals: Literals) -> bool
     ensures { λ r. ⌜ r ≡ consistent facts literals ⌝ }
 {
     within(facts, literals.positive)

@@ -7,8 +7,9 @@ use records::numbers::u16_at;
 use records::numbers::u64_at;
 ghost use mathlib.Core.Path.{_≡_};
 ghost use Prim.Native.Nat.{_+_, _^_, _<_};
+ghost use Rattle.records.specs.Numbers.{u64At};
 ghost use Rattle.task.specs.Facts.{literalsAt};
-ghost use Rattle.task.specs.Index.{actionAt, preconditionAt, effectCount, effectAt, startAt, goalAt};
+ghost use Rattle.task.specs.Index.{actionAt, effectAt, caseAt};
 
 // The bounds, how many actions and cases there are, and the offset of the first case.
 pub struct Index {
@@ -25,10 +26,22 @@ pub struct Task {
     pub presets: [u8; 768],
 }
 
+// An action: its precondition, and how many effects it has.
+pub struct Action {
+    pub precondition: Literals,
+    pub effects: u16,
+}
+
 // A conditional effect: where the condition holds, the literals come true.
 pub struct Effect {
     pub condition: Literals,
     pub literals: Literals,
+}
+
+// A case: the facts true at its start, and its goal.
+pub struct Case {
+    pub start: u64,
+    pub goal: Literals,
 }
 
 // The pair so many bytes after an offset.
@@ -45,26 +58,25 @@ fn literals_after(bytes: &[u8], at: usize, plus: usize) -> Literals
     literals_at(bytes, at + plus)
 }
 
-// The offset of an action's record.
-pub fn action_at(offsets: &[usize], action: u8) -> usize
-    ensures { λ r. ⌜ r ≡ actionAt (now (offsets .entry)) action ⌝ }
+// The set so many bytes after an offset.
+fn set_after(bytes: &[u8], at: usize, plus: usize) -> u64
+    requires { ⌜ plus < 2 ^ 32 ⌝ }
+    ensures { λ r. ⌜ r ≡ u64At (now (bytes .entry)) (at + plus) ⌝ }
 {
-    let at = action as usize;
-    if at < offsets.len() { offsets[at] } else { 0 }
+    if bytes.len() < at {
+        return 0;
+    }
+    u64_at(bytes, at + plus)
 }
 
-// The precondition of the action whose record is at an offset.
-pub fn precondition_at(task: &[u8], at: usize) -> Literals
-    ensures { λ r. ⌜ r ≡ preconditionAt (now (task .entry)) at ⌝ }
+// The action whose record is at an offset.
+pub fn action_at(task: &[u8], at: usize) -> Action
+    ensures { λ r. ⌜ r ≡ actionAt (now (task .entry)) at ⌝ }
 {
-    literals_after(task, at, 4)
-}
-
-// How many effects the action has whose record is at an offset.
-pub fn effect_count(task: &[u8], at: usize) -> u16
-    ensures { λ r. ⌜ r ≡ effectCount (now (task .entry)) at ⌝ }
-{
-    u16_at(task, at) / 32
+    Action {
+        precondition: literals_after(task, at, 4),
+        effects: u16_at(task, at) / 32,
+    }
 }
 
 // An effect of the action whose record is at an offset.
@@ -78,19 +90,13 @@ pub fn effect_at(task: &[u8], at: usize, number: u16) -> Effect
     }
 }
 
-// The facts true at a case's start.
-pub fn start_at(task: &[u8], first: usize, case: u8) -> u64
-    ensures { λ r. ⌜ r ≡ startAt (now (task .entry)) first case ⌝ }
+// A case, given the offset of the first one.
+pub fn case_at(task: &[u8], first: usize, number: u8) -> Case
+    ensures { λ r. ⌜ r ≡ caseAt (now (task .entry)) first number ⌝ }
 {
-    if task.len() < first {
-        return 0;
+    let from = 28 * (number as usize);
+    Case {
+        start: set_after(task, first, 4 + from),
+        goal: literals_after(task, first, 12 + from),
     }
-    u64_at(task, first + (4 + 28 * (case as usize)))
-}
-
-// A case's goal.
-pub fn goal_at(task: &[u8], first: usize, case: u8) -> Literals
-    ensures { λ r. ⌜ r ≡ goalAt (now (task .entry)) first case ⌝ }
-{
-    literals_after(task, first, 12 + 28 * (case as usize))
 }

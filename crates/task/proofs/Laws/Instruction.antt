@@ -144,3 +144,9 @@ put-missing bytes at w h =
     let f : set bytes (at + 1) (w .p) ≡ bytes = set-out bytes (at + 1) (w .p) (omega arith) in
     let g : set bytes (at + 2) (w .q) ≡ bytes = set-out bytes (at + 2) (w .q) (omega arith) in
     cc
+
+pub put-three : (bytes first second third : List ℕ) (at : ℕ) (w : Triple) → first ≡ set bytes at (w .op) → second ≡ set first (at + 1) (w .p)
+    → third ≡ set second (at + 2) (w .q) → third ≡ withTriple bytes at w
+unfolding withTriple
+put-three bytes first second third at w e f g =
+    g ∙ ap (λ (l : List ℕ). set l (at + 2) (w .q)) (f ∙ ap (λ (l : List ℕ). set l (at + 1) (w .p)) e)

@@ -4,17 +4,20 @@
 use Prim.Native.Nat.{ℕ, _+_, _*_, _%_, _≤_, _<_}
 use mathlib.Core.List.{List}
 use lib.ListN.{length}
-use mathlib.Core.Bool.{true, false}
+use mathlib.Core.Bool.{Bool, true, false, _||_}
 use lib.Dec.{eqb, ltb}
 use borrow.Author.Tests.{lt-ltb, le-ltb, eq-eqb, ne-eqb}
-use mathlib.Core.Path.{_≡_, sym, ap, _∙_}
+use mathlib.Core.Path.{_≡_, refl, sym, ap, _∙_}
 use native.Mathlib.Nat.{mod-lt, mod-add-mod, mod-eq-of-lt, mod-self}
 use native.Mathlib.Omega.{arith}
 use Rattle.task.specs.Bounds.{lineCount}
 use Rattle.task.specs.First.{firstNo}
-use Rattle.task.specs.Program.{lineAllowed, presetKept, unlessBelow, programVerdict}
+use Rattle.task.specs.Instruction.{decode, tripleAt}
+use Rattle.task.specs.Program.{decodes, lineAllowed, sameTriple, presetKept, unlessBelow, programVerdict}
 use Rattle.task.specs.Questions.{SIZE, LINES, PRESETS}
 use Rattle.task.specs.declared.index.Index.{Index}
+use Rattle.task.specs.declared.instruction.Triple.{Triple}
+use Rattle.task.specs.declared.instruction.Decoded.{Decoded}
 use Rattle.task.specs.declared.verdict.Verdict.the-variants.{Accepted, Refused}
 
 module _ (last k line : ℕ) (e : line ≡ k % (last + 1)) where
@@ -60,3 +63,14 @@ module _ (i : Index) (presets program : List ℕ) (n : ℕ) (e : n ≡ lineCount
       unfolding programVerdict unlessBelow
       program-good l =
           simp (size-yes, lines-yes, le-ltb (firstNo (presetKept presets program) (lineCount (i .bounds))) (lineCount (i .bounds)) (omega (arith, here)))
+
+-- questions 26 and 27 at one line
+pub line-test : (i : Index) (program : List ℕ) (k line : ℕ) (w : Triple) (d : Decoded) (r t : Bool) → line ≡ k % (i .bounds .last + 1)
+    → w ≡ tripleAt program (3 * k) → d ≡ decode (i .bounds) (i .actions) line w → r ≡ decodes d → r ≡ t → lineAllowed i program k ≡ t
+unfolding lineAllowed
+line-test i program k line w d r t e f g h j = rw (← f, ← e) (rw (← g) (sym h ∙ j))
+
+pub preset-test : (presets program : List ℕ) (k : ℕ) (v w : Triple) (same : Bool) → v ≡ tripleAt presets (3 * k) → w ≡ tripleAt program (3 * k)
+    → same ≡ sameTriple v w → (eqb (v .op) 0 || same) ≡ presetKept presets program k
+unfolding presetKept
+preset-test presets program k v w same e f g = rw (← e, ← f) (rw g refl)

@@ -37,7 +37,7 @@ u16-at-requires c κs = search needs
 
 returns : tie.Need-returns
 unfolding boundsAt
-returns c = cc
+returns c = rw (c .u16-at .ensures)
 
 pub bounds-at-spec : {M : Type 1} → statement M
 bounds-at-spec =

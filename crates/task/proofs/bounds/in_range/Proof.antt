@@ -2,6 +2,7 @@
 -- Assumes nothing.
 use borrow.Author.Needs.{needs}
 use Rattle.task.specs.Bounds.{inRange}
+use mathlib.Core.Bool.{_&&_}
 use Rattle.task.proofs.bounds.in_range.Statement.{statement}
 use Rattle.task.proofs.bounds.in_range.Tie as tie
 use Rattle.task.proofs.bounds.in_range.Reads as reads
@@ -37,7 +38,7 @@ between-requires-5 c κs = search needs
 
 returns : tie.Need-returns
 unfolding inRange
-returns c = cc
+returns c = λ i. c .before .before .before .before .before .before .before .between .ensures i && c .before .before .before .before .before .between2 .ensures i && c .before .before .before .between3 .ensures i && c .before .between4 .ensures i && c .between5 .ensures i
 
 pub in-range-spec : {M : Type 1} → statement M
 in-range-spec =

@@ -2,6 +2,9 @@
 -- Assumes nothing.
 use borrow.Author.Needs.{needs}
 use Rattle.task.specs.Facts.{consistent}
+use mathlib.Core.Bool.{_&&_}
+use lib.Dec.{eqb}
+use lib.Bits.{bitAnd}
 use Rattle.task.proofs.facts.consistent.Statement.{statement}
 use Rattle.task.proofs.facts.consistent.Tie as tie
 use Rattle.task.proofs.facts.consistent.Reads as reads
@@ -16,7 +19,8 @@ within-requires-2 c κs = search needs
 
 returns : tie.Need-returns
 unfolding consistent
-returns c = cc
+returns c = let l = c .before .before .before .args .literals in
+    λ i. c .before .before .within .ensures i && c .before .within2 .ensures i && eqb (bitAnd (l .positive) (l .negative)) 0
 
 pub consistent-spec : {M : Type 1} → statement M
 consistent-spec = tie.close (tie.spec within-requires within-requires-2 returns)

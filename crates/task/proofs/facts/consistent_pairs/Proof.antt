@@ -6,6 +6,7 @@ use mathlib.Core.Bool.{true, false}
 use borrow.Author.Needs.{needs}
 use native.Mathlib.Omega.{arith}
 use Rattle.task.specs.Facts.{consistentAt, consistentPairs}
+use Rattle.task.proofs.Laws.Facts.{pair-test}
 use Rattle.task.proofs.Laws.First.{Searching, searching, found-yes, found-no, found-none}
 use Rattle.task.proofs.facts.consistent_pairs.Statement.{statement}
 use Rattle.task.proofs.facts.consistent_pairs.Tie as tie
@@ -42,16 +43,15 @@ loop-less : tie.Need-loop-less Inv-loop μ-loop
 loop-less c = search needs
 
 loop-again : tie.Need-loop-again Inv-loop μ-loop
-unfolding consistentAt
-loop-again c = found-yes _ _ _ (c .before .before .before .before .loop .inv) (search needs) (cc)
+loop-again c = found-yes _ _ _ (c .before .before .before .before .loop .inv) (c .before .before .before .loop-test .taken) (pair-test _ _ _ _ _ _ _ (c .before .before .literals-at .ensures) (c .before .consistent .ensures) (c .if1 .taken))
 
 returns : tie.Need-returns Inv-loop μ-loop
-unfolding consistentPairs consistentAt
-returns c = found-no _ _ _ (c .before .before .before .before .loop .inv) (search needs) (cc)
+unfolding consistentPairs
+returns c = found-no _ _ _ (c .before .before .before .before .loop .inv) (c .before .before .before .loop-test .taken) (pair-test _ _ _ _ _ _ _ (c .before .before .literals-at .ensures) (c .before .consistent .ensures) (c .if1 .left))
 
 returns-2 : tie.Need-returns-2 Inv-loop μ-loop
 unfolding consistentPairs
-returns-2 c = found-none _ _ _ (c .before .loop .inv) (search needs)
+returns-2 c = found-none _ _ _ (c .before .loop .inv) (c .loop-test .left)
 
 pub consistent-pairs-spec : {M : Type 1} → statement M
 consistent-pairs-spec =

@@ -24,7 +24,7 @@ u64-at-requires-2 c κs = search needs
 
 returns-2 : tie.Need-returns-2
 unfolding literalsAt
-returns-2 c = cc
+returns-2 c = λ i. record { positive = c .before .u64-at .ensures i; negative = c .u64-at2 .ensures i }
 
 pub literals-at-spec : {M : Type 1} → statement M
 literals-at-spec =

@@ -1,26 +1,24 @@
--- `task::index::action_at` meets its contract: past the end an offset reads as 0.
+-- `task::index::action_at` meets its contract.
 -- Assumes nothing.
 use borrow.Author.Needs.{needs}
-use Rattle.records.proofs.Laws.Numbers.{byte-missing}
+use Prim.Native.Nat.{_/_}
 use Rattle.task.specs.Index.{actionAt}
 use Rattle.task.proofs.index.action_at.Statement.{statement}
 use Rattle.task.proofs.index.action_at.Tie as tie
 use Rattle.task.proofs.index.action_at.Reads as reads
 use Rattle.task.proofs.index.action_at.Lts as lts
+use Rattle.records.proofs.numbers.u16_at.Reads as u16-at-reads
+use Rattle.task.proofs.index.literals_after.Reads as literals-after-reads
 
-mul-result : tie.Need-mul-result
-mul-result c = search needs
+literals-after-requires : tie.Need-literals-after-requires
+literals-after-requires c κs = search needs
 
-shared-slice-read-result : tie.Need-shared-slice-read-result
-shared-slice-read-result c = search needs
+u16-at-requires : tie.Need-u16-at-requires
+u16-at-requires c κs = search needs
 
 returns : tie.Need-returns
 unfolding actionAt
-returns c = search needs
-
-returns-2 : tie.Need-returns-2
-unfolding actionAt
-returns-2 c = let a = c .before .args in byte-missing (a .offsets .now) (a .action) (c .if1 .left)
+returns c = λ i. record { precondition = c .before .literals-after .ensures i; effects = c .u16-at .ensures i / 32 }
 
 pub action-at-spec : {M : Type 1} → statement M
-action-at-spec = tie.close (tie.spec mul-result shared-slice-read-result returns returns-2)
+action-at-spec = tie.close (tie.spec literals-after-requires u16-at-requires returns)

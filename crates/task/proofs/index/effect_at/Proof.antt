@@ -25,7 +25,7 @@ literals-after-requires-2 c κs = search needs
 
 returns : tie.Need-returns
 unfolding effectAt
-returns c = cc
+returns c = λ i. record { condition = c .before .literals-after .ensures i; literals = c .literals-after2 .ensures i }
 
 pub effect-at-spec : {M : Type 1} → statement M
 effect-at-spec =

@@ -28,23 +28,23 @@ kept-requires-5 c κs = search needs
 
 returns : tie.Need-returns
 unfolding allowed
-returns c = c .kept .ensures ∙ decode-empty _ _ _ _ (omega arith)
+returns c = c .kept .ensures ∙ decode-empty _ _ _ _ (c .before .before .before .before .before .match .keys1)
 
 returns-2 : tie.Need-returns-2
 unfolding allowed
-returns-2 c = c .kept2 .ensures ∙ decode-act _ _ _ _ (omega arith)
+returns-2 c = c .kept2 .ensures ∙ decode-act _ _ _ _ (c .before .before .before .match .keys2)
 
 returns-3 : tie.Need-returns-3
 unfolding allowed
-returns-3 c = c .kept3 .ensures ∙ decode-goto _ _ _ _ (omega arith)
+returns-3 c = c .kept3 .ensures ∙ decode-goto _ _ _ _ (c .before .before .before .before .before .match .keys3)
 
 returns-4 : tie.Need-returns-4
 unfolding allowed
-returns-4 c = c .kept4 .ensures ∙ decode-call _ _ _ _ (omega arith)
+returns-4 c = c .kept4 .ensures ∙ decode-call _ _ _ _ (c .before .before .before .before .match .keys4)
 
 returns-5 : tie.Need-returns-5
 unfolding allowed
-returns-5 c = c .kept5 .ensures ∙ decode-end _ _ _ _ (omega arith)
+returns-5 c = c .kept5 .ensures ∙ decode-end _ _ _ _ (c .before .before .before .before .before .before .match .keys5)
 
 returns-6 : tie.Need-returns-6
 returns-6 c = decode-other _ _ _ _ (omega arith)

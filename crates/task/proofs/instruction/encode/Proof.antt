@@ -24,23 +24,23 @@ enum-told-2 c = search needs
 
 returns : tie.Need-returns
 unfolding encode
-returns c = cc
+returns c = rw (c .enum-told .given .1)
 
 returns-2 : tie.Need-returns-2
 unfolding encode
-returns-2 c = cc
+returns-2 c = rw (c .before .w .given .1)
 
 returns-3 : tie.Need-returns-3
 unfolding encode
-returns-3 c = cc
+returns-3 c = rw (c .before .w2 .given .1)
 
 returns-4 : tie.Need-returns-4
 unfolding encode
-returns-4 c = cc
+returns-4 c = rw (c .before .w3 .given .1)
 
 returns-5 : tie.Need-returns-5
 unfolding encode
-returns-5 c = cc
+returns-5 c = rw (c .enum-told2 .given .1)
 
 pub encode-spec : {M : Type 1} → statement M
 encode-spec =

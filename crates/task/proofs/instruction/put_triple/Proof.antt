@@ -2,8 +2,7 @@
 -- Assumes nothing.
 use borrow.Author.Needs.{needs}
 use native.Mathlib.Omega.{arith}
-use Rattle.task.specs.Instruction.{withTriple}
-use Rattle.task.proofs.Laws.Instruction.{put-missing}
+use Rattle.task.proofs.Laws.Instruction.{put-missing, put-three}
 use Rattle.task.proofs.instruction.put_triple.Statement.{statement}
 use Rattle.task.proofs.instruction.put_triple.Tie as tie
 use Rattle.task.proofs.instruction.put_triple.Reads as reads
@@ -32,8 +31,7 @@ same-length : tie.Need-same-length
 same-length c = search needs
 
 returns-2 : tie.Need-returns-2
-unfolding withTriple
-returns-2 c = cc
+returns-2 c = put-three _ _ _ _ _ _ (c .before .before .before .before .before .before .before .before .before .before .put .ensures) (c .before .before .before .before .before .before .put2 .ensures) (c .before .before .put3 .ensures)
 
 pub put-triple-spec : {M : Type 1} → statement M
 put-triple-spec =

@@ -30,7 +30,7 @@ byte-at-requires-3 c κs = search needs
 
 returns-2 : tie.Need-returns-2
 unfolding tripleAt
-returns-2 c = cc
+returns-2 c = λ i. record { op = c .before .before .byte-at .ensures i; p = c .before .byte-at2 .ensures i; q = c .byte-at3 .ensures i }
 
 pub triple-at-spec : {M : Type 1} → statement M
 triple-at-spec =

@@ -9,7 +9,7 @@ use borrow.Author.Needs.{needs}
 use Rattle.task.specs.First.{firstNo}
 use Rattle.task.specs.Program.{lineAllowed}
 use Rattle.task.proofs.Laws.First.{Searching, searching, found-yes, found-no, found-none}
-use Rattle.task.proofs.Laws.Program.{line-next, line-again}
+use Rattle.task.proofs.Laws.Program.{line-next, line-again, line-test}
 use Rattle.task.proofs.program.allowed_lines.Statement.{statement}
 use Rattle.task.proofs.program.allowed_lines.Tie as tie
 use Rattle.task.proofs.program.allowed_lines.Reads as reads
@@ -56,22 +56,19 @@ loop-less : tie.Need-loop-less Inv-loop μ-loop
 loop-less c = search needs
 
 loop-again : tie.Need-loop-again Inv-loop μ-loop
-unfolding lineAllowed
-loop-again c = (found-yes _ _ _ (c .before .before .before .before .before .before .loop .inv .0) (search needs) (cc), line-next _ _ _ (c .before .before .before .before .before .before .loop .inv .1) (c .if2 .taken))
+loop-again c = (found-yes _ _ _ (c .before .before .before .before .before .before .loop .inv .0) (c .before .before .before .before .before .loop-test .taken) (line-test _ _ _ _ _ _ _ _ (c .before .before .before .before .before .before .loop .inv .1) (c .before .before .before .before .triple-at .ensures) (c .before .before .before .decode .ensures) (c .before .before .decodes .ensures) (c .before .if1 .taken)), line-next _ _ _ (c .before .before .before .before .before .before .loop .inv .1) (c .if2 .taken))
 
 loop-less-2 : tie.Need-loop-less-2 Inv-loop μ-loop
 loop-less-2 c = search needs
 
 loop-again-2 : tie.Need-loop-again-2 Inv-loop μ-loop
-unfolding lineAllowed
-loop-again-2 c = (found-yes _ _ _ (c .before .before .before .before .before .before .loop .inv .0) (search needs) (cc), line-again _ _ _ (c .before .before .before .before .before .before .loop .inv .1) (c .if2 .left))
+loop-again-2 c = (found-yes _ _ _ (c .before .before .before .before .before .before .loop .inv .0) (c .before .before .before .before .before .loop-test .taken) (line-test _ _ _ _ _ _ _ _ (c .before .before .before .before .before .before .loop .inv .1) (c .before .before .before .before .triple-at .ensures) (c .before .before .before .decode .ensures) (c .before .before .decodes .ensures) (c .before .if1 .taken)), line-again _ _ _ (c .before .before .before .before .before .before .loop .inv .1) (c .if2 .left))
 
 returns : tie.Need-returns Inv-loop μ-loop
-unfolding lineAllowed
-returns c = found-no _ _ _ (c .before .before .before .before .before .loop .inv .0) (search needs) (cc) ∙ ap (firstNo _) (c .before .before .before .before .before .before .line-count .ensures)
+returns c = found-no _ _ _ (c .before .before .before .before .before .loop .inv .0) (c .before .before .before .before .loop-test .taken) (line-test _ _ _ _ _ _ _ _ (c .before .before .before .before .before .loop .inv .1) (c .before .before .before .triple-at .ensures) (c .before .before .decode .ensures) (c .before .decodes .ensures) (c .if1 .left)) ∙ ap (firstNo _) (c .before .before .before .before .before .before .line-count .ensures)
 
 returns-2 : tie.Need-returns-2 Inv-loop μ-loop
-returns-2 c = found-none _ _ _ (c .before .loop .inv .0) (search needs) ∙ ap (firstNo _) (c .before .before .line-count .ensures)
+returns-2 c = found-none _ _ _ (c .before .loop .inv .0) (c .loop-test .left) ∙ ap (firstNo _) (c .before .before .line-count .ensures)
 
 pub allowed-lines-spec : {M : Type 1} → statement M
 allowed-lines-spec =

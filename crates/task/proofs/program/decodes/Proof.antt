@@ -15,11 +15,11 @@ enum-told-2 c = search needs
 
 returns : tie.Need-returns
 unfolding decodes
-returns c = cc
+returns c = rw (c .enum-told .given .1)
 
 returns-2 : tie.Need-returns-2
 unfolding decodes
-returns-2 c = cc
+returns-2 c = rw (c .enum-told2 .given .1)
 
 pub decodes-spec : {M : Type 1} → statement M
 decodes-spec = tie.close (tie.spec enum-told enum-told-2 returns returns-2)

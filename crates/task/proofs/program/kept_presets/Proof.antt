@@ -1,6 +1,7 @@
 -- `task::program::kept_presets` meets its contract: it is the search for the first preset line that does not hold its preset.
 -- Assumes nothing.
 use Prim.Native.Nat.{_-_}
+use mathlib.Core.Path.{sym, _∙_}
 use borrow.Author.Needs.{needs}
 use Rattle.task.specs.Program.{presetKept}
 use Rattle.task.proofs.Laws.First.{Searching, searching, found-yes, found-no, found-none}
@@ -29,13 +30,13 @@ loop-less : tie.Need-loop-less Inv-loop μ-loop
 loop-less c = search needs
 
 loop-again : tie.Need-loop-again Inv-loop μ-loop
-loop-again c = found-yes _ _ _ (c .before .before .before .loop .inv) (search needs) (cc)
+loop-again c = found-yes _ _ _ (c .before .before .before .loop .inv) (c .before .before .loop-test .taken) (sym (c .before .preset-kept .ensures) ∙ c .if1 .taken)
 
 returns : tie.Need-returns Inv-loop μ-loop
-returns c = found-no _ _ _ (c .before .before .before .loop .inv) (search needs) (cc)
+returns c = found-no _ _ _ (c .before .before .before .loop .inv) (c .before .before .loop-test .taken) (sym (c .before .preset-kept .ensures) ∙ c .if1 .left)
 
 returns-2 : tie.Need-returns-2 Inv-loop μ-loop
-returns-2 c = found-none _ _ _ (c .before .loop .inv) (search needs)
+returns-2 c = found-none _ _ _ (c .before .loop .inv) (c .loop-test .left)
 
 pub kept-presets-spec : {M : Type 1} → statement M
 kept-presets-spec =

@@ -1,7 +1,7 @@
 -- `task::program::preset_kept` meets its contract.
 -- Assumes nothing.
 use borrow.Author.Needs.{needs}
-use Rattle.task.specs.Program.{presetKept}
+use Rattle.task.proofs.Laws.Program.{preset-test}
 use Rattle.task.proofs.program.preset_kept.Statement.{statement}
 use Rattle.task.proofs.program.preset_kept.Tie as tie
 use Rattle.task.proofs.program.preset_kept.Reads as reads
@@ -25,8 +25,7 @@ same-triple-requires : tie.Need-same-triple-requires
 same-triple-requires c κs = search needs
 
 returns : tie.Need-returns
-unfolding presetKept
-returns c = cc
+returns c = preset-test _ _ _ _ _ _ (c .before .before .before .triple-at .ensures) (c .before .before .triple-at2 .ensures) (c .same-triple .ensures)
 
 pub preset-kept-spec : {M : Type 1} → statement M
 preset-kept-spec =

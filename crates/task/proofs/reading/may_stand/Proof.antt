@@ -24,23 +24,23 @@ enum-told-5 c = search needs
 
 returns : tie.Need-returns
 unfolding mayStand
-returns c = cc
+returns c = rw (c .enum-told .given .1)
 
 returns-2 : tie.Need-returns-2
 unfolding mayStand
-returns-2 c = cc
+returns-2 c = rw (c .enum-told2 .given .1)
 
 returns-3 : tie.Need-returns-3
 unfolding mayStand
-returns-3 c = cc
+returns-3 c = rw (c .enum-told3 .given .1)
 
 returns-4 : tie.Need-returns-4
 unfolding mayStand
-returns-4 c = cc
+returns-4 c = rw (c .enum-told4 .given .1)
 
 returns-5 : tie.Need-returns-5
 unfolding mayStand
-returns-5 c = cc
+returns-5 c = rw (c .enum-told5 .given .1)
 
 pub may-stand-spec : {M : Type 1} → statement M
 may-stand-spec =
