@@ -1,5 +1,6 @@
 -- The law of a loop whose measure falls: it is one turn, and then the loop again. Any two numbers of turns above the measure give
--- the same answer, so what is left after a turn is still enough.
+-- the same answer, so what is left after a turn is still enough. And the law of a loop whose turns keep a property of the states:
+-- what every answer from such a state has, the loop's answer has.
 -- Assumes nothing.
 use Prim.Native.Nat.{ℕ, zero, suc, _<_}
 use mathlib.Core.Path.{_≡_, refl}
@@ -24,3 +25,24 @@ module _ {S A : Type 0} (turn : S → Turn S A) (measure : S → ℕ) (short : A
   pub unroll : (s : S) → loop turn measure short s ≡ after (turn s) (loop turn measure short)
   unfolding loop turns
   unroll s = after-same (turn s) _ _ (λ t e. enough (measure s) (suc (measure t)) t (falls s t e) (le-refl _))
+
+-- a turn's answer has `Q`, or its state has `P`
+abbrev pub Keeps : {S A : Type 0} → (S → Type 0) → (A → Type 0) → Turn S A → Type 0
+Keeps P Q (stop a) = Q a
+Keeps P Q (go s) = P s
+
+after-keeps : {S A : Type 0} (P : S → Type 0) (Q : A → Type 0) (u : Turn S A) (f : S → A) → Keeps P Q u → ((t : S) → P t → Q (f t)) → Q (after u f)
+unfolding after
+after-keeps P Q (stop a) f k h = k
+after-keeps P Q (go t) f k h = h t k
+
+module _ {S A : Type 0} (P : S → Type 0) (Q : A → Type 0) (turn : S → Turn S A) (measure : S → ℕ) (short : A)
+    (keeps : (s : S) → P s → Keeps P Q (turn s)) (q : Q short) where
+  turns-keep : (n : ℕ) (s : S) → P s → Q (turns turn short n s)
+  unfolding turns
+  turns-keep zero s p = q
+  turns-keep (suc n) s p = after-keeps P Q (turn s) _ (keeps s p) (λ t k. turns-keep n t k)
+
+  pub loop-keeps : (s : S) → P s → Q (loop turn measure short s)
+  unfolding loop
+  loop-keeps s p = turns-keep (suc (measure s)) s p
