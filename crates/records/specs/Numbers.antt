@@ -1,4 +1,4 @@
--- Numbers in a file, as document 01 has them under "Records": unsigned and little-endian, the first byte weighing least.
+-- Numbers in a file: unsigned and little-endian, the first byte weighing least.
 -- A number whose bytes are not all there reads as 0, so that every offset has an answer.
 use Prim.Native.Nat.{ℕ, _+_, _*_, _^_}
 use mathlib.Core.List.{List}

@@ -1,5 +1,5 @@
--- A record of a file, as document 01 has it under "Records": body length (2 bytes), kind (2 bytes), body. Questions 1 and 11 ask
--- whether the four head bytes and the body are all there.
+-- A record of a file: body length (2 bytes), kind (2 bytes), body. Question 1, and question 11 of a plan, ask whether the four head
+-- bytes and the body are all there.
 use Prim.Native.Nat.{ℕ, _+_}
 use mathlib.Core.List.{List}
 use mathlib.Core.Bool.{Bool, cond, _&&_}

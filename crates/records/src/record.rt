@@ -8,7 +8,7 @@ pub enum Found {
     // A whole record: its kind, its body's first offset and length, and the offset after it.
     Record {
         kind: u16,
-        start: usize,
+        body: usize,
         length: usize,
         next: usize,
     },
@@ -28,14 +28,14 @@ pub fn record_at(bytes: &[u8], at: usize) -> Found
     }
     let length = u16_at(bytes, at) as usize;
     let kind = u16_at(bytes, at + 2);
-    let start = at + 4;
-    if bytes.len() - start < length {
+    let body = at + 4;
+    if bytes.len() - body < length {
         return Found::Missing;
     }
     Found::Record {
         kind,
-        start,
+        body,
         length,
-        next: start + length,
+        next: body + length,
     }
 }

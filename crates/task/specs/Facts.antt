@@ -22,9 +22,9 @@ unfoldable pub consistent : ℕ → Literals → Bool
 consistent facts l = within facts (l .positive) && within facts (l .negative) && eqb (bitAnd (l .positive) (l .negative)) 0
 
 -- question 6 on the pair number k of those laid end to end from an offset
-unfoldable pub consistentAt : ℕ → List ℕ → ℕ → ℕ → Bool
-consistentAt facts bytes at k = consistent facts (literalsAt bytes (at + 16 * k))
+unfoldable pub pairConsistent : ℕ → List ℕ → ℕ → ℕ → Bool
+pairConsistent facts bytes at k = consistent facts (literalsAt bytes (at + 16 * k))
 
 -- of `count` such pairs, how many stand before the first that fails question 6; `count` where none does
-unfoldable pub consistentPairs : ℕ → List ℕ → ℕ → ℕ → ℕ
-consistentPairs facts bytes at count = firstNo (consistentAt facts bytes at) count
+unfoldable pub pairsBeforeFault : ℕ → List ℕ → ℕ → ℕ → ℕ
+pairsBeforeFault facts bytes at count = firstNo (pairConsistent facts bytes at) count

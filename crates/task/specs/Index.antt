@@ -13,10 +13,14 @@ use Rattle.task.specs.declared.index.Effect.{Effect}
 unfoldable pub actionAt : List ℕ → ℕ → Action
 actionAt bytes at = record { precondition = literalsAt bytes (at + 4); effects = u16At bytes at / 32 }
 
--- its effect number e: the condition pair, and the pair of facts raised and lowered
+-- its effect number e: the condition pair, and the sets of facts raised and lowered
 unfoldable pub effectAt : List ℕ → ℕ → ℕ → Effect
 effectAt bytes at e =
-    record { condition = literalsAt bytes (at + (20 + 32 * e)); literals = literalsAt bytes (at + (36 + 32 * e)) }
+    record {
+      condition = literalsAt bytes (at + (20 + 32 * e));
+      raised = u64At bytes (at + (36 + 32 * e));
+      lowered = u64At bytes (at + (44 + 32 * e));
+    }
 
 -- case number c, given the offset of the first: the facts true at its start, and its goal
 unfoldable pub caseAt : List ℕ → ℕ → ℕ → Case

@@ -6,49 +6,51 @@ use lib.ListN.{set}
 use lib.Dec.{leb, ltb, eqb}
 use Rattle.records.specs.Numbers.{byteAt}
 use Rattle.task.specs.declared.bounds.Bounds.{Bounds}
+use Rattle.task.specs.declared.instruction.Line.{Line}
+use Rattle.task.specs.declared.instruction.Proc.{Proc}
 use Rattle.task.specs.declared.instruction.Triple.{Triple}
 use Rattle.task.specs.declared.instruction.Instruction.{Instruction}
 use Rattle.task.specs.declared.instruction.Instruction.the-variants.{Empty, Act, Goto, Call, End}
 use Rattle.task.specs.declared.instruction.Decoded.{Decoded}
-use Rattle.task.specs.declared.instruction.Decoded.the-variants.{Allowed, Forbidden}
+use Rattle.task.specs.declared.instruction.Decoded.the-variants.{Is, Nothing}
 
 -- an answer kept where a condition holds
 unfoldable pub keep : Bool → Decoded → Decoded
 keep true d = d
-keep false d = Forbidden
+keep false d = Nothing
 
 -- the instruction that three bytes spell: op 0 empty, 1 act, 2 goto, 3 call, 4 end; none for another op, or for a byte other than
 -- zero where zero is named
 unfoldable pub spelled : Triple → Decoded
 spelled w =
-    cond (eqb (w .op) 0) (keep (eqb (w .p) 0 && eqb (w .q) 0) (Allowed Empty))
-    (cond (eqb (w .op) 1) (keep (eqb (w .q) 0) (Allowed (Act (w .p))))
-    (cond (eqb (w .op) 2) (Allowed (Goto (record { 0 = w .p }) (w .q)))
-    (cond (eqb (w .op) 3) (keep (eqb (w .q) 0) (Allowed (Call (record { 0 = w .p }))))
-    (cond (eqb (w .op) 4) (keep (eqb (w .p) 0 && eqb (w .q) 0) (Allowed End))
-    Forbidden))))
+    cond (eqb (w .op) 0) (keep (eqb (w .p) 0 && eqb (w .q) 0) (Is Empty))
+    (cond (eqb (w .op) 1) (keep (eqb (w .q) 0) (Is (Act (w .p))))
+    (cond (eqb (w .op) 2) (Is (Goto (record { 0 = w .p }) (w .q)))
+    (cond (eqb (w .op) 3) (keep (eqb (w .q) 0) (Is (Call (record { 0 = w .p }))))
+    (cond (eqb (w .op) 4) (keep (eqb (w .p) 0 && eqb (w .q) 0) (Is End))
+    Nothing))))
 
 -- whether an instruction is allowed on a line of a task with these bounds and so many actions: act, goto and call stand on lines
 -- 0 to n - 1, end on lines 1 to n, empty on any line 0 to n; operands name an action, a line 0 to n, a fact below F, a procedure below b
-unfoldable pub allowed : Bounds → ℕ → ℕ → Instruction → Bool
-allowed b actions line Empty = leb line (b .last)
-allowed b actions line (Act action) = ltb line (b .last) && ltb action actions
-allowed b actions line (Goto target fact) = ltb line (b .last) && leb (target .0) (b .last) && ltb fact (b .facts)
-allowed b actions line (Call procedure) = ltb line (b .last) && ltb (procedure .0) (b .procedures)
-allowed b actions line End = leb 1 line && leb line (b .last)
+unfoldable pub allowed : Bounds → ℕ → Line → Instruction → Bool
+allowed b actions line Empty = leb (line .0) (b .last)
+allowed b actions line (Act action) = ltb (line .0) (b .last) && ltb action actions
+allowed b actions line (Goto target fact) = ltb (line .0) (b .last) && leb (target .0) (b .last) && ltb fact (b .facts)
+allowed b actions line (Call procedure) = ltb (line .0) (b .last) && ltb (procedure .0) (b .procedures)
+allowed b actions line End = leb 1 (line .0) && leb (line .0) (b .last)
 
 -- an instruction where it is allowed on the line
-unfoldable pub onLine : Bounds → ℕ → ℕ → Decoded → Decoded
-onLine b actions line (Allowed w) = keep (allowed b actions line w) (Allowed w)
-onLine b actions line Forbidden = Forbidden
+unfoldable pub whereAllowed : Bounds → ℕ → Line → Decoded → Decoded
+whereAllowed b actions line (Is w) = keep (allowed b actions line w) (Is w)
+whereAllowed b actions line Nothing = Nothing
 
 -- three bytes on a line: the instruction that they spell, if it is allowed there
-unfoldable pub decode : Bounds → ℕ → ℕ → Triple → Decoded
-decode b actions line w = onLine b actions line (spelled w)
+unfoldable pub decode : Bounds → ℕ → Line → Triple → Decoded
+decode b actions line w = whereAllowed b actions line (spelled w)
 
 -- questions 7 and 15: three bytes for a line of a procedure, the procedure below b, the instruction allowed there and not empty
-unfoldable pub placed : Bounds → ℕ → ℕ → ℕ → Triple → Decoded
-placed b actions procedure line w = keep (ltb procedure (b .procedures) && ltb 0 (w .op)) (decode b actions line w)
+unfoldable pub decodeFor : Bounds → ℕ → Proc → Line → Triple → Decoded
+decodeFor b actions procedure line w = keep (ltb (procedure .0) (b .procedures) && ltb 0 (w .op)) (decode b actions line w)
 
 -- the three bytes of an instruction
 unfoldable pub encode : Instruction → Triple

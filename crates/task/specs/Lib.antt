@@ -3,7 +3,8 @@ pub mod Facts
 pub mod First
 pub mod Index
 pub mod Instruction
+pub mod Outcome
 pub mod Program
 pub mod Questions
-pub mod Verdict
 pub mod Reading
+pub mod Verdict

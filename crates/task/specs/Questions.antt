@@ -38,13 +38,13 @@ abbrev pub CLOSED : ℕ
 CLOSED = 9
 
 -- is the program exactly as long as its lines?
-abbrev pub SIZE : ℕ
-SIZE = 25
+abbrev pub PROGRAM-LENGTH : ℕ
+PROGRAM-LENGTH = 25
 
 -- is every line's instruction allowed there, or empty?
-abbrev pub LINES : ℕ
-LINES = 26
+abbrev pub PROGRAM-LINES : ℕ
+PROGRAM-LINES = 26
 
 -- does every preset line hold its preset?
-abbrev pub PRESETS : ℕ
-PRESETS = 27
+abbrev pub PROGRAM-PRESETS : ℕ
+PROGRAM-PRESETS = 27

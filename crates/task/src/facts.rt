@@ -3,7 +3,7 @@ use records::numbers::u64_at;
 ghost use mathlib.Core.Path.{_≡_};
 ghost use Prim.Native.Nat.{_+_, _*_, _≤_};
 ghost use lib.ListN.{length};
-ghost use Rattle.task.specs.Facts.{literalsAt, within, consistent, consistentPairs};
+ghost use Rattle.task.specs.Facts.{literalsAt, within, consistent, pairsBeforeFault};
 
 // A pair of fact sets: the facts to be true and the facts to be false.
 pub struct Literals {
@@ -47,9 +47,9 @@ pub(crate) fn consistent(facts: u8, literals: Literals) -> bool
 }
 
 // Of `count` pairs from `at` on, how many stand before the first that fails question 6.
-pub(crate) fn consistent_pairs(bytes: &[u8], at: usize, count: usize, facts: u8) -> usize
+pub(crate) fn pairs_before_fault(bytes: &[u8], at: usize, count: usize, facts: u8) -> usize
     requires { ⌜ at + 16 * count ≤ length (now bytes) ⌝ }
-    ensures { λ r. ⌜ r ≡ consistentPairs facts (now (bytes .entry)) at count ⌝ }
+    ensures { λ r. ⌜ r ≡ pairsBeforeFault facts (now (bytes .entry)) at count ⌝ }
 {
     let mut k = 0;
     while k < count {

@@ -32,10 +32,11 @@ pub struct Action {
     pub effects: u16,
 }
 
-// A conditional effect: where the condition holds, the literals come true.
+// A conditional effect: where the condition holds, facts are raised and lowered.
 pub struct Effect {
     pub condition: Literals,
-    pub literals: Literals,
+    pub raised: u64,
+    pub lowered: u64,
 }
 
 // A case: the facts true at its start, and its goal.
@@ -86,7 +87,8 @@ pub fn effect_at(task: &[u8], at: usize, number: u16) -> Effect
     let from = 32 * (number as usize);
     Effect {
         condition: literals_after(task, at, 20 + from),
-        literals: literals_after(task, at, 36 + from),
+        raised: set_after(task, at, 36 + from),
+        lowered: set_after(task, at, 44 + from),
     }
 }
 

@@ -3,8 +3,8 @@ use crate::bounds::Bounds;
 use records::numbers::byte_at;
 ghost use mathlib.Core.Path.{_≡_};
 ghost use lib.ListN.{set};
-ghost use Rattle.task.specs.Instruction.{keep, decode, placed, encode, tripleAt, withTriple};
-ghost use Rattle.task.specs.declared.instruction.Decoded.the-variants.{Allowed};
+ghost use Rattle.task.specs.Instruction.{keep, decode, decodeFor, encode, tripleAt, withTriple};
+ghost use Rattle.task.specs.declared.instruction.Decoded.the-variants.{Is};
 
 // A procedure's number.
 pub struct Proc(pub u8);
@@ -34,24 +34,24 @@ pub enum Instruction {
 
 // Three bytes on a line: an instruction that is allowed there, or none.
 pub enum Decoded {
-    Allowed(Instruction),
-    Forbidden,
+    Is(Instruction),
+    Nothing,
 }
 
 // An instruction, where its bytes are zero as named and it is allowed on its line.
 fn kept(zeros: bool, allowed: bool, w: Instruction) -> Decoded
-    ensures { λ r. ⌜ r ≡ keep zeros (keep allowed (Allowed w)) ⌝ }
+    ensures { λ r. ⌜ r ≡ keep zeros (keep allowed (Is w)) ⌝ }
 {
     if zeros & allowed {
-        Decoded::Allowed(w)
+        Decoded::Is(w)
     } else {
-        Decoded::Forbidden
+        Decoded::Nothing
     }
 }
 
 // The instruction that three bytes spell, if it is allowed on the line.
 pub fn decode(b: Bounds, actions: u8, line: Line, w: Triple) -> Decoded
-    ensures { λ r. ⌜ r ≡ decode b actions (line .0) w ⌝ }
+    ensures { λ r. ⌜ r ≡ decode b actions line w ⌝ }
 {
     let before_last = line.0 < b.last;
     let op = w.op;
@@ -81,19 +81,19 @@ pub fn decode(b: Bounds, actions: u8, line: Line, w: Triple) -> Decoded
             (1 <= line.0) & (line.0 <= b.last),
             Instruction::End,
         ),
-        5..=255 => Decoded::Forbidden,
+        5..=255 => Decoded::Nothing,
     }
 }
 
 // Questions 7 and 15: the instruction that three bytes spell for a line of a procedure, if the procedure is below b and the
 // instruction allowed there and not empty.
-pub(crate) fn placed(b: Bounds, actions: u8, procedure: Proc, line: Line, w: Triple) -> Decoded
-    ensures { λ r. ⌜ r ≡ placed b actions (procedure .0) (line .0) w ⌝ }
+pub(crate) fn decode_for(b: Bounds, actions: u8, procedure: Proc, line: Line, w: Triple) -> Decoded
+    ensures { λ r. ⌜ r ≡ decodeFor b actions procedure line w ⌝ }
 {
     if (procedure.0 < b.procedures) & (0 < w.op) {
         decode(b, actions, line, w)
     } else {
-        Decoded::Forbidden
+        Decoded::Nothing
     }
 }
 

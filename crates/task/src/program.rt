@@ -8,31 +8,31 @@ use crate::instruction::Proc;
 use crate::instruction::Triple;
 use crate::instruction::decode;
 use crate::instruction::triple_at;
-use crate::questions::LINES;
-use crate::questions::PRESETS;
-use crate::questions::SIZE;
+use crate::questions::PROGRAM_LENGTH;
+use crate::questions::PROGRAM_LINES;
+use crate::questions::PROGRAM_PRESETS;
 use crate::verdict::Verdict;
 ghost use mathlib.Core.Path.{_≡_};
 ghost use Prim.Native.Nat.{_+_, _*_, _≤_};
 ghost use lib.ListN.{length};
 ghost use Rattle.task.specs.Bounds.{lineCount};
 ghost use Rattle.task.specs.First.{firstNo};
-ghost use Rattle.task.specs.Program.{lineOffset, decodes, lineAllowed, sameTriple, presetKept, programVerdict};
+ghost use Rattle.task.specs.Program.{lineOffset, isInstruction, lineAllowed, sameTriple, presetHeld, programVerdict};
 
 // Where a line of a procedure begins in a program.
 pub(crate) fn line_offset(b: Bounds, procedure: Proc, line: Line) -> usize
-    ensures { λ r. ⌜ r ≡ lineOffset b (procedure .0) (line .0) ⌝ }
+    ensures { λ r. ⌜ r ≡ lineOffset b procedure line ⌝ }
 {
     3 * (procedure.0 as usize * (b.last as usize + 1) + line.0 as usize)
 }
 
 // Whether three bytes decoded to an instruction.
-fn decodes(d: Decoded) -> bool
-    ensures { λ r. ⌜ r ≡ decodes d ⌝ }
+fn is_instruction(d: Decoded) -> bool
+    ensures { λ r. ⌜ r ≡ isInstruction d ⌝ }
 {
     match d {
-        Decoded::Allowed(_) => true,
-        Decoded::Forbidden => false,
+        Decoded::Is(_) => true,
+        Decoded::Nothing => false,
     }
 }
 
@@ -44,9 +44,9 @@ fn same_triple(v: Triple, w: Triple) -> bool
 }
 
 // Question 27 on one line.
-fn preset_kept(presets: &[u8], program: &[u8], k: usize) -> bool
+fn preset_held(presets: &[u8], program: &[u8], k: usize) -> bool
     requires { ⌜ 3 * k ≤ length (now program) ⌝ }
-    ensures { λ r. ⌜ r ≡ presetKept (now (presets .entry)) (now (program .entry)) k ⌝ }
+    ensures { λ r. ⌜ r ≡ presetHeld (now (presets .entry)) (now (program .entry)) k ⌝ }
 {
     let preset = triple_at(presets, 3 * k);
     let line = triple_at(program, 3 * k);
@@ -64,7 +64,7 @@ fn allowed_lines(index: Index, program: &[u8]) -> usize
     let mut k = 0;
     let mut line = 0;
     while k < count {
-        if decodes(decode(bounds, index.actions, Line(line), triple_at(program, 3 * k))) {
+        if is_instruction(decode(bounds, index.actions, Line(line), triple_at(program, 3 * k))) {
             k += 1;
             line = if line < last { line + 1 } else { 0 };
         } else {
@@ -75,13 +75,13 @@ fn allowed_lines(index: Index, program: &[u8]) -> usize
 }
 
 // How many lines stand before the first that question 27 turns down.
-fn kept_presets(count: usize, presets: &[u8], program: &[u8]) -> usize
+fn held_presets(count: usize, presets: &[u8], program: &[u8]) -> usize
     requires { ⌜ 3 * count ≤ length (now program) ⌝ }
-    ensures { λ r. ⌜ r ≡ firstNo (presetKept (now (presets .entry)) (now (program .entry))) count ⌝ }
+    ensures { λ r. ⌜ r ≡ firstNo (presetHeld (now (presets .entry)) (now (program .entry))) count ⌝ }
 {
     let mut k = 0;
     while k < count {
-        if preset_kept(presets, program, k) {
+        if preset_held(presets, program, k) {
             k += 1;
         } else {
             return k;
@@ -98,21 +98,21 @@ pub fn check_program(index: Index, presets: &[u8], program: &[u8]) -> Verdict
     let count = line_count(bounds) as usize;
     if program.len() != 3 * count {
         return Verdict::Refused {
-            question: SIZE,
+            question: PROGRAM_LENGTH,
             place: 0,
         };
     }
     let allowed = allowed_lines(index, program);
     if allowed < count {
         return Verdict::Refused {
-            question: LINES,
+            question: PROGRAM_LINES,
             place: 3 * allowed,
         };
     }
-    let kept = kept_presets(count, presets, program);
+    let kept = held_presets(count, presets, program);
     if kept < count {
         return Verdict::Refused {
-            question: PRESETS,
+            question: PROGRAM_PRESETS,
             place: 3 * kept,
         };
     }

@@ -19,8 +19,8 @@ pub const REPEATED: u8 = 8;
 // Does the file end after the closing record?
 pub const CLOSED: u8 = 9;
 // Is the program exactly as long as its lines?
-pub const SIZE: u8 = 25;
+pub const PROGRAM_LENGTH: u8 = 25;
 // Is every line's instruction allowed there, or empty?
-pub const LINES: u8 = 26;
+pub const PROGRAM_LINES: u8 = 26;
 // Does every preset line hold its preset?
-pub const PRESETS: u8 = 27;
+pub const PROGRAM_PRESETS: u8 = 27;

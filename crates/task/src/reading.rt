@@ -3,16 +3,16 @@ use crate::bounds::Bounds;
 use crate::bounds::bounds_at;
 use crate::bounds::in_range;
 use crate::facts::consistent;
-use crate::facts::consistent_pairs;
 use crate::facts::literals_at;
+use crate::facts::pairs_before_fault;
 use crate::facts::within;
 use crate::index::Index;
 use crate::index::Task;
 use crate::instruction::Decoded;
 use crate::instruction::Line;
 use crate::instruction::Proc;
+use crate::instruction::decode_for;
 use crate::instruction::encode;
-use crate::instruction::placed;
 use crate::instruction::put_triple;
 use crate::instruction::triple_at;
 use crate::program::line_offset;
@@ -36,7 +36,8 @@ ghost use mathlib.Core.List.{List};
 ghost use mathlib.Core.Bool.{cond};
 ghost use lib.Dec.{eqb};
 ghost use lib.ListN.{length};
-ghost use Rattle.task.specs.Reading.{State, mayStand, lengthFits, headerTurn, actionTurn, presetTurn, caseTurn, closeTurn, turnOf, refused, readTask, turned};
+ghost use Rattle.task.specs.Reading.{mayStand, lengthFits, headerTurn, actionTurn, presetTurn, caseTurn, closeTurn, turnOf, noIndex, refused, readTask};
+ghost use Rattle.task.specs.Outcome.{turned};
 
 // Where in the file the last record stood.
 pub enum Section {
@@ -57,7 +58,7 @@ pub struct Progress {
 // What one record leads to: the next, a refusal, or the end of the file.
 pub enum Outcome {
     Next(Progress),
-    Refused { question: u8, place: usize },
+    Refused(u8, usize),
     Closed,
 }
 
@@ -94,13 +95,13 @@ fn length_fits(kind: u16, size: usize) -> bool
 }
 
 // The bounds: question 5.
-fn read_header(task: &[u8], progress: Progress, start: usize, next: usize) -> Outcome
-    requires { ⌜ start + 6 ≤ length (now task) ⌝ }
+fn read_header(task: &[u8], progress: Progress, body: usize, next: usize) -> Outcome
+    requires { ⌜ body + 6 ≤ length (now task) ⌝ }
     ensures { λ r. ⌜ ((o q : List ℕ) →
         turned (progress .index) r o q
-        ≡ headerTurn (now (task .entry)) (record { progress = progress; offsets = o; presets = q }) start next) ⌝ }
+        ≡ headerTurn (now (task .entry)) (record { progress = progress; offsets = o; presets = q }) body next) ⌝ }
 {
-    let bounds = bounds_at(task, start);
+    let bounds = bounds_at(task, body);
     if in_range(bounds) {
         Outcome::Next(Progress {
             at: next,
@@ -113,10 +114,7 @@ fn read_header(task: &[u8], progress: Progress, start: usize, next: usize) -> Ou
             },
         })
     } else {
-        Outcome::Refused {
-            question: BOUNDS,
-            place: progress.at,
-        }
+        Outcome::Refused(BOUNDS, progress.at)
     }
 }
 
@@ -124,32 +122,26 @@ fn read_header(task: &[u8], progress: Progress, start: usize, next: usize) -> Ou
 fn read_action(
     task: &[u8],
     progress: Progress,
-    start: usize,
+    body: usize,
     size: usize,
     next: usize,
     offsets: &mut [usize; 64],
 ) -> Outcome
-    requires { ⌜ start + size ≤ length (now task) ⌝ }
+    requires { ⌜ body + size ≤ length (now task) ⌝ }
     ensures { λ r. ⌜ ((q : List ℕ) →
         turned (progress .index) r (now (offsets .exit)) q
-        ≡ actionTurn (now (task .entry)) (record { progress = progress; offsets = now (offsets .entry); presets = q }) start size next) ⌝ }
+        ≡ actionTurn (now (task .entry)) (record { progress = progress; offsets = now (offsets .entry); presets = q }) body size next) ⌝ }
 {
     let at = progress.at;
     let index = progress.index;
     let bounds = index.bounds;
     let number = index.actions as usize;
     if 64 <= number {
-        return Outcome::Refused {
-            question: COUNT,
-            place: at,
-        };
+        return Outcome::Refused(COUNT, at);
     }
     let pairs = size / 16;
-    if consistent_pairs(task, start, pairs, bounds.facts) != pairs {
-        return Outcome::Refused {
-            question: SETS,
-            place: at,
-        };
+    if pairs_before_fault(task, body, pairs, bounds.facts) != pairs {
+        return Outcome::Refused(SETS, at);
     }
     offsets[number] = at;
     Outcome::Next(Progress {
@@ -168,34 +160,28 @@ fn read_action(
 fn read_preset(
     task: &[u8],
     progress: Progress,
-    start: usize,
+    body: usize,
     next: usize,
     presets: &mut [u8],
 ) -> Outcome
-    requires { ⌜ start + 5 ≤ length (now task) ⌝ }
+    requires { ⌜ body + 5 ≤ length (now task) ⌝ }
     ensures { λ r. ⌜ ((o : List ℕ) →
         turned (progress .index) r o (now (presets .exit))
-        ≡ presetTurn (now (task .entry)) (record { progress = progress; offsets = o; presets = now (presets .entry) }) start next) ⌝ }
+        ≡ presetTurn (now (task .entry)) (record { progress = progress; offsets = o; presets = now (presets .entry) }) body next) ⌝ }
 {
     let at = progress.at;
     let index = progress.index;
     let bounds = index.bounds;
-    let procedure = byte_at(task, start);
-    let line = byte_at(task, start + 1);
-    let triple = triple_at(task, start + 2);
-    let decoded = placed(bounds, index.actions, Proc(procedure), Line(line), triple);
-    let Decoded::Allowed(w) = decoded else {
-        return Outcome::Refused {
-            question: PRESET,
-            place: at,
-        };
+    let procedure = byte_at(task, body);
+    let line = byte_at(task, body + 1);
+    let triple = triple_at(task, body + 2);
+    let decoded = decode_for(bounds, index.actions, Proc(procedure), Line(line), triple);
+    let Decoded::Is(w) = decoded else {
+        return Outcome::Refused(PRESET, at);
     };
     let offset = line_offset(bounds, Proc(procedure), Line(line));
     if byte_at(presets, offset) != 0 {
-        return Outcome::Refused {
-            question: REPEATED,
-            place: at,
-        };
+        return Outcome::Refused(REPEATED, at);
     }
     put_triple(presets, offset, encode(w));
     Outcome::Next(Progress {
@@ -213,23 +199,20 @@ fn first_case(index: Index, at: usize) -> usize
 }
 
 // A case: questions 4 and 6. The first case's offset is noted.
-fn read_case(task: &[u8], progress: Progress, start: usize, next: usize) -> Outcome
-    requires { ⌜ start + 24 ≤ length (now task) ⌝ }
+fn read_case(task: &[u8], progress: Progress, body: usize, next: usize) -> Outcome
+    requires { ⌜ body + 24 ≤ length (now task) ⌝ }
     ensures { λ r. ⌜ ((o q : List ℕ) →
         turned (progress .index) r o q
-        ≡ caseTurn (now (task .entry)) (record { progress = progress; offsets = o; presets = q }) start next) ⌝ }
+        ≡ caseTurn (now (task .entry)) (record { progress = progress; offsets = o; presets = q }) body next) ⌝ }
 {
     let at = progress.at;
     let index = progress.index;
     let bounds = index.bounds;
     if 32 <= index.cases {
-        return Outcome::Refused {
-            question: COUNT,
-            place: at,
-        };
+        return Outcome::Refused(COUNT, at);
     }
     let facts = bounds.facts;
-    if within(facts, u64_at(task, start)) & consistent(facts, literals_at(task, start + 8)) {
+    if within(facts, u64_at(task, body)) & consistent(facts, literals_at(task, body + 8)) {
         Outcome::Next(Progress {
             at: next,
             section: Section::Cases,
@@ -241,10 +224,7 @@ fn read_case(task: &[u8], progress: Progress, start: usize, next: usize) -> Outc
             },
         })
     } else {
-        Outcome::Refused {
-            question: SETS,
-            place: at,
-        }
+        Outcome::Refused(SETS, at)
     }
 }
 
@@ -257,10 +237,7 @@ fn read_close(task: &[u8], progress: Progress, next: usize) -> Outcome
     if next == task.len() {
         Outcome::Closed
     } else {
-        Outcome::Refused {
-            question: CLOSED,
-            place: next,
-        }
+        Outcome::Refused(CLOSED, next)
     }
 }
 
@@ -279,35 +256,44 @@ fn read_record(
     let found = record_at(task, at);
     let Found::Record {
         kind,
-        start,
+        body,
         length,
         next,
     } = found
     else {
-        return Outcome::Refused {
-            question: WHOLE,
-            place: at,
-        };
+        return Outcome::Refused(WHOLE, at);
     };
     let section = progress.section;
     if !may_stand(section, kind) {
-        return Outcome::Refused {
-            question: KIND,
-            place: at,
-        };
+        return Outcome::Refused(KIND, at);
     }
     if !length_fits(kind, length) {
-        return Outcome::Refused {
-            question: LENGTH,
-            place: at,
-        };
+        return Outcome::Refused(LENGTH, at);
     }
     match kind {
-        1 => read_header(task, progress, start, next),
-        2 => read_action(task, progress, start, length, next, offsets),
-        3 => read_preset(task, progress, start, next, presets),
-        4 => read_case(task, progress, start, next),
+        1 => read_header(task, progress, body, next),
+        2 => read_action(task, progress, body, length, next, offsets),
+        3 => read_preset(task, progress, body, next, presets),
+        4 => read_case(task, progress, body, next),
         _ => read_close(task, progress, next),
+    }
+}
+
+// The index of no task.
+fn no_index() -> Index
+    ensures { λ r. ⌜ r ≡ noIndex ⌝ }
+{
+    Index {
+        bounds: Bounds {
+            facts: 0,
+            procedures: 0,
+            last: 0,
+            stack: 0,
+            steps: 0,
+        },
+        actions: 0,
+        cases: 0,
+        first: 0,
     }
 }
 
@@ -318,18 +304,7 @@ fn refused(question: u8, place: usize) -> Reading
     Reading {
         verdict: Verdict::Refused { question, place },
         task: Task {
-            index: Index {
-                bounds: Bounds {
-                    facts: 0,
-                    procedures: 0,
-                    last: 0,
-                    stack: 0,
-                    steps: 0,
-                },
-                actions: 0,
-                cases: 0,
-                first: 0,
-            },
+            index: no_index(),
             offsets: [0; 64],
             presets: [0; 768],
         },
@@ -345,18 +320,7 @@ pub fn read_task(task: &[u8]) -> Reading
     let mut progress = Progress {
         at: 0,
         section: Section::Start,
-        index: Index {
-            bounds: Bounds {
-                facts: 0,
-                procedures: 0,
-                last: 0,
-                stack: 0,
-                steps: 0,
-            },
-            actions: 0,
-            cases: 0,
-            first: 0,
-        },
+        index: no_index(),
     };
     loop {
         let outcome = read_record(task, progress, &mut offsets, &mut presets);
@@ -364,7 +328,7 @@ pub fn read_task(task: &[u8]) -> Reading
             Outcome::Next(next) => {
                 progress = next;
             }
-            Outcome::Refused { question, place } => {
+            Outcome::Refused(question, place) => {
                 return refused(question, place);
             }
             Outcome::Closed => {

@@ -53,7 +53,8 @@ fn write_action(bytes: &[u8], at: usize) {
         write(b"; where");
         write_literals(effect.condition);
         write(b" makes");
-        write_literals(effect.literals);
+        write_number(b" ", effect.raised);
+        write_number(b" ", effect.lowered);
     }
     write(b"\n");
 }

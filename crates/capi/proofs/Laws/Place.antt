@@ -23,17 +23,19 @@ use Rattle.records.proofs.Laws.Record.{record-ends}
 use Rattle.records.proofs.Laws.Tests.{both-true}
 use Rattle.task.proofs.Laws.Instruction.{encode-decode}
 use Rattle.task.specs.Bounds.{boundsAt, between, inRange}
-use Rattle.task.specs.Instruction.{keep, spelled, allowed, onLine, decode, placed, encode, tripleAt, withTriple}
+use Rattle.task.specs.Instruction.{keep, spelled, allowed, whereAllowed, decode, decodeFor, encode, tripleAt, withTriple}
 use Rattle.task.specs.Program.{lineOffset}
 use Rattle.task.specs.Questions.{WHOLE}
 use Rattle.task.specs.Reading.{State, begin, refused, ask, mayStand, byKind, lengthFits, headerTurn, actionTurn, onPreset, presetTurn, caseTurn, closeTurn, onRecord, turnOf, left, readTask}
 use Rattle.task.specs.Verdict.{valueOf}
 use Rattle.task.specs.declared.bounds.Bounds.{Bounds}
+use Rattle.task.specs.declared.instruction.Line.{Line}
+use Rattle.task.specs.declared.instruction.Proc.{Proc}
 use Rattle.task.specs.declared.instruction.Triple.{Triple}
 use Rattle.task.specs.declared.instruction.Instruction.{Instruction}
 use Rattle.task.specs.declared.instruction.Instruction.the-variants.{Empty, Act, Goto, Call, End}
 use Rattle.task.specs.declared.instruction.Decoded.{Decoded}
-use Rattle.task.specs.declared.instruction.Decoded.the-variants.{Allowed, Forbidden}
+use Rattle.task.specs.declared.instruction.Decoded.the-variants.{Is, Nothing}
 use Rattle.task.specs.declared.reading.Reading.{Reading}
 use Rattle.task.specs.declared.reading.Section.{Section}
 use Rattle.task.specs.declared.reading.Section.the-variants.{Start, Header, Actions, Presets, Cases}
@@ -82,44 +84,44 @@ module _ (presets : List ℕ) (line : ℕ) (w : Triple) where
         (omega (arith, free-before line (omega arith), put-here h))
         (λ k l i. omega (arith, put-other k (omega arith)))
 
-kept : (t : Bool) (d : Decoded) (w : Instruction) → keep t d ≡ Allowed w → (t ≡ true) × (d ≡ Allowed w)
+kept : (t : Bool) (d : Decoded) (w : Instruction) → keep t d ≡ Is w → (t ≡ true) × (d ≡ Is w)
 unfolding keep
 kept true d w h = (refl, h)
 kept false d w h = let z : _≡_ {A = ℕ} 0 1 = cc in absurd (omega arith)
 
 -- an instruction that is allowed on a line: the line is no more than the last
-module _ (b : Bounds) (actions line : ℕ) where
-  allowed-line : (w : Instruction) → allowed b actions line w ≡ true → line ≤ b .last
+module _ (b : Bounds) (actions : ℕ) (line : Line) where
+  allowed-line : (w : Instruction) → allowed b actions line w ≡ true → line .0 ≤ b .last
   unfolding allowed
-  allowed-line Empty h = leb-true line (b .last) h
-  allowed-line (Act action) h = omega (arith, ltb-true line (b .last) (both-true _ _ h .0))
-  allowed-line (Goto target fact) h = omega (arith, ltb-true line (b .last) (both-true _ _ (both-true _ _ h .0) .0))
-  allowed-line (Call procedure) h = omega (arith, ltb-true line (b .last) (both-true _ _ h .0))
-  allowed-line End h = leb-true line (b .last) (both-true (leb 1 line) _ h .1)
+  allowed-line Empty h = leb-true (line .0) (b .last) h
+  allowed-line (Act action) h = omega (arith, ltb-true (line .0) (b .last) (both-true _ _ h .0))
+  allowed-line (Goto target fact) h = omega (arith, ltb-true (line .0) (b .last) (both-true _ _ (both-true _ _ h .0) .0))
+  allowed-line (Call procedure) h = omega (arith, ltb-true (line .0) (b .last) (both-true _ _ h .0))
+  allowed-line End h = leb-true (line .0) (b .last) (both-true (leb 1 (line .0)) _ h .1)
 
-  on-line : (d : Decoded) (w : Instruction) → onLine b actions line d ≡ Allowed w → line ≤ b .last
-  unfolding onLine
-  on-line (Allowed v) w h = allowed-line v (kept _ _ w h .0)
-  on-line Forbidden w h = let z : _≡_ {A = ℕ} 0 1 = cc in absurd (omega arith)
+  on-line : (d : Decoded) (w : Instruction) → whereAllowed b actions line d ≡ Is w → line .0 ≤ b .last
+  unfolding whereAllowed
+  on-line (Is v) w h = allowed-line v (kept _ _ w h .0)
+  on-line Nothing w h = let z : _≡_ {A = ℕ} 0 1 = cc in absurd (omega arith)
 
-  module _ (procedure : ℕ) (t : Triple) (w : Instruction) (h : placed b actions procedure line t ≡ Allowed w) where
-    placed-tests : (procedure < b .procedures) × (0 < t .op) × (decode b actions line t ≡ Allowed w)
-    unfolding placed
-    placed-tests =
-        let k = kept (ltb procedure (b .procedures) && ltb 0 (t .op)) _ w h in
+  module _ (procedure : Proc) (t : Triple) (w : Instruction) (h : decodeFor b actions procedure line t ≡ Is w) where
+    for-tests : (procedure .0 < b .procedures) × (0 < t .op) × (decode b actions line t ≡ Is w)
+    unfolding decodeFor
+    for-tests =
+        let k = kept (ltb (procedure .0) (b .procedures) && ltb 0 (t .op)) _ w h in
         let z = both-true _ _ (k .0) in
-        (ltb-true procedure (b .procedures) (z .0), ltb-true 0 (t .op) (z .1), k .1)
+        (ltb-true (procedure .0) (b .procedures) (z .0), ltb-true 0 (t .op) (z .1), k .1)
 
-    placed-line : line ≤ b .last
+    for-line : line .0 ≤ b .last
     unfolding decode
-    placed-line = on-line (spelled t) w (placed-tests .2)
+    for-line = on-line (spelled t) w (for-tests .2)
 
-    placed-op : 0 < encode w .op
-    placed-op = rw (encode-decode b actions line t w (placed-tests .2)) (placed-tests .1)
+    for-op : 0 < encode w .op
+    for-op = rw (encode-decode b actions line t w (for-tests .2)) (for-tests .1)
 
-    placed-below : b .procedures ≤ 8 → b .last ≤ 31 → procedure * (b .last + 1) + line < 256
-    placed-below p l =
-        omega (arith, placed-line, mul-le-mul {n₁ = procedure} {m₁ = b .last + 1} {n₂ = 7} {m₂ = 32} (omega (arith, placed-tests .0)) (omega arith))
+    for-below : b .procedures ≤ 8 → b .last ≤ 31 → procedure .0 * (b .last + 1) + line .0 < 256
+    for-below p l =
+        omega (arith, for-line, mul-le-mul {n₁ = procedure .0} {m₁ = b .last + 1} {n₂ = 7} {m₂ = 32} (omega (arith, for-tests .0)) (omega arith))
 
 -- the bytes of a header, 256 presets, 64 actions and 32 cases, each as long as it may be
 abbrev most : ℕ
@@ -226,16 +228,16 @@ module _ (bytes : List ℕ) (s : State) (small : Small s) where
         ask-good _ _ _ _ here λ h. ask-good _ _ _ _ here λ k. omega (arith, ltb-true (s .progress .index .cases) 32 h)
 
     on-preset-good : next ≡ s .progress .at + 9 → (d : Decoded)
-        → placed (s .progress .index .bounds) (s .progress .index .actions) (byteAt bytes start) (byteAt bytes (start + 1)) (tripleAt bytes (start + 2))
+        → decodeFor (s .progress .index .bounds) (s .progress .index .actions) (record { 0 = byteAt bytes start }) (record { 0 = byteAt bytes (start + 1) }) (tripleAt bytes (start + 2))
         ≡ d
         → Good (onPreset bytes s start next d)
     unfolding onPreset refused lineOffset
-    on-preset-good n Forbidden e = here
-    on-preset-good n (Allowed w) e =
+    on-preset-good n Nothing e = here
+    on-preset-good n (Is w) e =
         ask-good _ _ _ _ here λ h.
         let line = byteAt bytes start * (s .progress .index .bounds .last + 1) + byteAt bytes (start + 1) in
-        let below : line < 256 = placed-below _ _ _ _ _ w e (small .procedures) (small .last) in
-        let fewer = free-fewer (s .presets) line (encode w) (omega arith) (eqb-true _ 0 h) (placed-op _ _ _ _ _ w e) 256 below in
+        let below : line < 256 = for-below _ _ _ _ _ w e (small .procedures) (small .last) in
+        let fewer = free-fewer (s .presets) line (encode w) (omega arith) (eqb-true _ 0 h) (for-op _ _ _ _ _ w e) 256 below in
         omega (arith, put-length (s .presets) line (encode w))
 
     preset-good : next ≡ s .progress .at + 9 → Good (presetTurn bytes s start next)

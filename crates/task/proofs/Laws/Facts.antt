@@ -12,7 +12,7 @@ use lib.Dec.{eqb, ltb}
 use lib.Pow.{pow-pos, pow-mono}
 use borrow.Author.Tests.{lt-ltb, le-ltb, eq-eqb, ne-eqb}
 use Rattle.records.proofs.Laws.Numbers.{u64-missing}
-use Rattle.task.specs.Facts.{literalsAt, within, consistent, consistentAt}
+use Rattle.task.specs.Facts.{literalsAt, within, consistent, pairConsistent}
 use Rattle.task.specs.declared.facts.Literals.{Literals}
 
 pub within-all : (facts set : ℕ) → 64 ≤ facts → set < 2 ^ 64 → true ≡ within facts set
@@ -30,8 +30,8 @@ within-shift facts set = elim (decLe (2 ^ facts) set) [ yes h ↦ more h | no h 
     more h = ne-eqb _ _ (λ (e : set / 2 ^ facts ≡ 0). omega (arith, div-lt-iff-lt-mul {x = set} {y = 1} (pow-pos facts) .0 (omega arith))) ∙ sym (le-ltb _ _ h)
 
 pub pair-test : (facts : ℕ) (bytes : List ℕ) (at k : ℕ) (l : Literals) (r t : Bool) → l ≡ literalsAt bytes (at + 16 * k) → r ≡ consistent facts l → r ≡ t
-    → consistentAt facts bytes at k ≡ t
-unfolding consistentAt
+    → pairConsistent facts bytes at k ≡ t
+unfolding pairConsistent
 pair-test facts bytes at k l r t e f g = rw (← e) (sym f ∙ g)
 
 pub literals-missing : (bytes : List ℕ) (at : ℕ) → length bytes < at → _≡_ {A = Literals} (record { positive = 0; negative = 0 }) (literalsAt bytes at)

@@ -11,22 +11,23 @@ use borrow.Author.Tests.{ne-eqb, eqb-true}
 use native.Mathlib.Omega.{arith}
 use Rattle.records.proofs.Laws.Numbers.{byte-missing}
 use Rattle.records.proofs.Laws.Tests.{both-true}
-use Rattle.task.specs.Instruction.{keep, spelled, allowed, onLine, decode, encode, tripleAt, withTriple}
+use Rattle.task.specs.Instruction.{keep, spelled, allowed, whereAllowed, decode, encode, tripleAt, withTriple}
 use Rattle.task.specs.declared.bounds.Bounds.{Bounds}
+use Rattle.task.specs.declared.instruction.Line.{Line}
 use Rattle.task.specs.declared.instruction.Triple.{Triple}
 use Rattle.task.specs.declared.instruction.Instruction.{Instruction}
 use Rattle.task.specs.declared.instruction.Instruction.the-variants.{Empty, Act, Goto, Call, End}
 use Rattle.task.specs.declared.instruction.Decoded.{Decoded}
-use Rattle.task.specs.declared.instruction.Decoded.the-variants.{Allowed, Forbidden}
+use Rattle.task.specs.declared.instruction.Decoded.the-variants.{Is, Nothing}
 
-apart : (w : Instruction) → Allowed w ≡ Forbidden → ⊥
+apart : (w : Instruction) → Is w ≡ Nothing → ⊥
 apart w h = let z : _≡_ {A = ℕ} 0 1 = cc in omega arith
 
 pub keep-yes : (t : Bool) (d : Decoded) → t ≡ true → d ≡ keep t d
 unfolding keep
 keep-yes t d h = rw h
 
-pub keep-no : (t : Bool) (d : Decoded) → t ≡ false → Forbidden ≡ keep t d
+pub keep-no : (t : Bool) (d : Decoded) → t ≡ false → Nothing ≡ keep t d
 unfolding keep
 keep-no t d h = rw h
 
@@ -36,48 +37,48 @@ kept-both true true d h = refl
 kept-both true false d h = absurd (false≢true h)
 kept-both false ok d h = absurd (false≢true h)
 
-pub kept-not : (zeros ok : Bool) (d : Decoded) → (zeros && ok) ≡ false → Forbidden ≡ keep zeros (keep ok d)
+pub kept-not : (zeros ok : Bool) (d : Decoded) → (zeros && ok) ≡ false → Nothing ≡ keep zeros (keep ok d)
 unfolding keep
 kept-not true true d h = absurd (true≢false h)
 kept-not true false d h = refl
 kept-not false ok d h = refl
 
-module _ (b : Bounds) (actions line : ℕ) where
-  line-keep : (t : Bool) (w : Instruction) → keep t (keep (allowed b actions line w) (Allowed w)) ≡ onLine b actions line (keep t (Allowed w))
-  unfolding onLine keep
+module _ (b : Bounds) (actions : ℕ) (line : Line) where
+  line-keep : (t : Bool) (w : Instruction) → keep t (keep (allowed b actions line w) (Is w)) ≡ whereAllowed b actions line (keep t (Is w))
+  unfolding whereAllowed keep
   line-keep true w = refl
   line-keep false w = refl
 
   module _ (w : Triple) where
     pub decode-empty : w .op ≡ 0
-        → keep (eqb (w .p) 0 && eqb (w .q) 0) (keep (allowed b actions line Empty) (Allowed Empty)) ≡ decode b actions line w
+        → keep (eqb (w .p) 0 && eqb (w .q) 0) (keep (allowed b actions line Empty) (Is Empty)) ≡ decode b actions line w
     unfolding decode spelled
     decode-empty h = rw h (line-keep _ _)
 
     pub decode-act : w .op ≡ 1
-        → keep (eqb (w .q) 0) (keep (allowed b actions line (Act (w .p))) (Allowed (Act (w .p)))) ≡ decode b actions line w
+        → keep (eqb (w .q) 0) (keep (allowed b actions line (Act (w .p))) (Is (Act (w .p)))) ≡ decode b actions line w
     unfolding decode spelled
     decode-act h = rw h (line-keep _ _)
 
     pub decode-goto : w .op ≡ 2
-        → keep true (keep (allowed b actions line (Goto (record { 0 = w .p }) (w .q))) (Allowed (Goto (record { 0 = w .p }) (w .q))))
+        → keep true (keep (allowed b actions line (Goto (record { 0 = w .p }) (w .q))) (Is (Goto (record { 0 = w .p }) (w .q))))
         ≡ decode b actions line w
     unfolding decode spelled keep
     decode-goto h = rw h (line-keep true _)
 
     pub decode-call : w .op ≡ 3
-        → keep (eqb (w .q) 0) (keep (allowed b actions line (Call (record { 0 = w .p }))) (Allowed (Call (record { 0 = w .p }))))
+        → keep (eqb (w .q) 0) (keep (allowed b actions line (Call (record { 0 = w .p }))) (Is (Call (record { 0 = w .p }))))
         ≡ decode b actions line w
     unfolding decode spelled
     decode-call h = rw h (line-keep _ _)
 
     pub decode-end : w .op ≡ 4
-        → keep (eqb (w .p) 0 && eqb (w .q) 0) (keep (allowed b actions line End) (Allowed End)) ≡ decode b actions line w
+        → keep (eqb (w .p) 0 && eqb (w .q) 0) (keep (allowed b actions line End) (Is End)) ≡ decode b actions line w
     unfolding decode spelled
     decode-end h = rw h (line-keep _ _)
 
-    pub decode-other : 5 ≤ w .op → Forbidden ≡ decode b actions line w
-    unfolding decode spelled onLine
+    pub decode-other : 5 ≤ w .op → Nothing ≡ decode b actions line w
+    unfolding decode spelled whereAllowed
     decode-other h =
         simp (
           ne-eqb (w .op) 0 (omega arith),
@@ -87,8 +88,8 @@ module _ (b : Bounds) (actions line : ℕ) where
           ne-eqb (w .op) 4 (omega arith),
         )
 
-  pub decode-encode : (w : Instruction) → allowed b actions line w ≡ true → decode b actions line (encode w) ≡ Allowed w
-  unfolding decode spelled onLine encode keep
+  pub decode-encode : (w : Instruction) → allowed b actions line w ≡ true → decode b actions line (encode w) ≡ Is w
+  unfolding decode spelled whereAllowed encode keep
   decode-encode Empty h = simp h
   decode-encode (Act action) h = simp h
   decode-encode (Goto target fact) h = rw h
@@ -98,14 +99,14 @@ module _ (b : Bounds) (actions line : ℕ) where
 triple-is : (t : Triple) {op p q : ℕ} → op ≡ t .op → p ≡ t .p → q ≡ t .q → record { op = op; p = p; q = q } ≡ t
 triple-is t e f g = λ i. record { op = e i; p = f i; q = g i }
 
-keep-inverse : (t u : Bool) (v w : Instruction) → Allowed w ≡ keep t (keep u (Allowed v)) → (t ≡ true) × (v ≡ w)
+keep-inverse : (t u : Bool) (v w : Instruction) → Is w ≡ keep t (keep u (Is v)) → (t ≡ true) × (v ≡ w)
 unfolding keep
 keep-inverse true true v w h = (refl, cc)
 keep-inverse true false v w h = absurd (apart w h)
 keep-inverse false u v w h = absurd (apart w h)
 
-module _ (b : Bounds) (actions line : ℕ) (t : Triple) (w : Instruction) (h : decode b actions line t ≡ Allowed w) where
-  spelled-by : (zeros ok : Bool) (v : Instruction) → keep zeros (keep ok (Allowed v)) ≡ decode b actions line t → (zeros ≡ true) × (v ≡ w)
+module _ (b : Bounds) (actions : ℕ) (line : Line) (t : Triple) (w : Instruction) (h : decode b actions line t ≡ Is w) where
+  spelled-by : (zeros ok : Bool) (v : Instruction) → keep zeros (keep ok (Is v)) ≡ decode b actions line t → (zeros ≡ true) × (v ≡ w)
   spelled-by zeros ok v e = keep-inverse zeros ok v w (sym (e ∙ h))
 
   by-op : (op : ℕ) → t .op ≡ op → encode w ≡ t

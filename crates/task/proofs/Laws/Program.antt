@@ -1,20 +1,21 @@
 -- A program's verdict, question by question; and the number of a line in its procedure, as the lines are counted through all
 -- procedures: it grows by one, or starts again at 0.
 -- Assumes nothing.
-use Prim.Native.Nat.{ℕ, _+_, _*_, _%_, _≤_, _<_}
+use Prim.Native.Nat.{ℕ, _+_, _*_, _/_, _%_, _≤_, _<_}
 use mathlib.Core.List.{List}
 use lib.ListN.{length}
 use mathlib.Core.Bool.{Bool, true, false, _||_}
 use lib.Dec.{eqb, ltb}
 use borrow.Author.Tests.{lt-ltb, le-ltb, eq-eqb, ne-eqb}
 use mathlib.Core.Path.{_≡_, refl, sym, ap, _∙_}
-use native.Mathlib.Nat.{mod-lt, mod-add-mod, mod-eq-of-lt, mod-self}
+use native.Mathlib.Nat.{mod-lt, mod-add-mod, mod-eq-of-lt, mod-self, div-add-mod'}
 use native.Mathlib.Omega.{arith}
 use Rattle.task.specs.Bounds.{lineCount}
 use Rattle.task.specs.First.{firstNo}
 use Rattle.task.specs.Instruction.{decode, tripleAt}
-use Rattle.task.specs.Program.{decodes, lineAllowed, sameTriple, presetKept, unlessBelow, programVerdict}
-use Rattle.task.specs.Questions.{SIZE, LINES, PRESETS}
+use Rattle.task.specs.Program.{isInstruction, lineAllowed, lineOffset, sameTriple, presetHeld, everyLine, programVerdict}
+use Rattle.task.specs.Questions.{PROGRAM-LENGTH, PROGRAM-LINES, PROGRAM-PRESETS}
+use Rattle.task.specs.declared.bounds.Bounds.{Bounds}
 use Rattle.task.specs.declared.index.Index.{Index}
 use Rattle.task.specs.declared.instruction.Triple.{Triple}
 use Rattle.task.specs.declared.instruction.Decoded.{Decoded}
@@ -34,7 +35,7 @@ module _ (last k line : ℕ) (e : line ≡ k % (last + 1)) where
 
 -- `n` is the number of lines, `a` and `k` how many pass questions 26 and 27 before the first that does not
 module _ (i : Index) (presets program : List ℕ) (n : ℕ) (e : n ≡ lineCount (i .bounds)) where
-  pub size-no : (length program ≡ 3 * n → ⊥) → Refused SIZE 0 ≡ programVerdict i presets program
+  pub size-no : (length program ≡ 3 * n → ⊥) → Refused PROGRAM-LENGTH 0 ≡ programVerdict i presets program
   unfolding programVerdict
   size-no h = simp (ne-eqb (length program) (3 * lineCount (i .bounds)) (λ (f : length program ≡ 3 * lineCount (i .bounds)). h (omega arith)))
 
@@ -42,35 +43,40 @@ module _ (i : Index) (presets program : List ℕ) (n : ℕ) (e : n ≡ lineCount
     size-yes : eqb (length program) (3 * lineCount (i .bounds)) ≡ true
     size-yes = eq-eqb (length program) (3 * lineCount (i .bounds)) (omega arith)
 
-    pub lines-no : a < n → Refused LINES (3 * a) ≡ programVerdict i presets program
-    unfolding programVerdict unlessBelow
+    pub lines-no : a < n → Refused PROGRAM-LINES (3 * a) ≡ programVerdict i presets program
+    unfolding programVerdict everyLine
     lines-no h = rw f (simp (size-yes, lt-ltb (firstNo (lineAllowed i program) (lineCount (i .bounds))) (lineCount (i .bounds)) (omega arith)))
 
-    module _ (h : n ≤ a) (k : ℕ) (g : k ≡ firstNo (presetKept presets program) n) where
+    module _ (h : n ≤ a) (k : ℕ) (g : k ≡ firstNo (presetHeld presets program) n) where
       lines-yes : ltb (firstNo (lineAllowed i program) (lineCount (i .bounds))) (lineCount (i .bounds)) ≡ false
       lines-yes = le-ltb (firstNo (lineAllowed i program) (lineCount (i .bounds))) (lineCount (i .bounds)) (omega arith)
 
-      here : k ≡ firstNo (presetKept presets program) (lineCount (i .bounds))
-      here = g ∙ ap (firstNo (presetKept presets program)) e
+      here : k ≡ firstNo (presetHeld presets program) (lineCount (i .bounds))
+      here = g ∙ ap (firstNo (presetHeld presets program)) e
 
-      pub presets-no : k < n → Refused PRESETS (3 * k) ≡ programVerdict i presets program
-      unfolding programVerdict unlessBelow
+      pub presets-no : k < n → Refused PROGRAM-PRESETS (3 * k) ≡ programVerdict i presets program
+      unfolding programVerdict everyLine
       presets-no l =
           rw here
-          (simp (size-yes, lines-yes, lt-ltb (firstNo (presetKept presets program) (lineCount (i .bounds))) (lineCount (i .bounds)) (omega (arith, here))))
+          (simp (size-yes, lines-yes, lt-ltb (firstNo (presetHeld presets program) (lineCount (i .bounds))) (lineCount (i .bounds)) (omega (arith, here))))
 
       pub program-good : n ≤ k → Accepted 0 ≡ programVerdict i presets program
-      unfolding programVerdict unlessBelow
+      unfolding programVerdict everyLine
       program-good l =
-          simp (size-yes, lines-yes, le-ltb (firstNo (presetKept presets program) (lineCount (i .bounds))) (lineCount (i .bounds)) (omega (arith, here)))
+          simp (size-yes, lines-yes, le-ltb (firstNo (presetHeld presets program) (lineCount (i .bounds))) (lineCount (i .bounds)) (omega (arith, here)))
 
 -- questions 26 and 27 at one line
 pub line-test : (i : Index) (program : List ℕ) (k line : ℕ) (w : Triple) (d : Decoded) (r t : Bool) → line ≡ k % (i .bounds .last + 1)
-    → w ≡ tripleAt program (3 * k) → d ≡ decode (i .bounds) (i .actions) line w → r ≡ decodes d → r ≡ t → lineAllowed i program k ≡ t
+    → w ≡ tripleAt program (3 * k) → d ≡ decode (i .bounds) (i .actions) (record { 0 = line }) w → r ≡ isInstruction d → r ≡ t → lineAllowed i program k ≡ t
 unfolding lineAllowed
 line-test i program k line w d r t e f g h j = rw (← f, ← e) (rw (← g) (sym h ∙ j))
 
 pub preset-test : (presets program : List ℕ) (k : ℕ) (v w : Triple) (same : Bool) → v ≡ tripleAt presets (3 * k) → w ≡ tripleAt program (3 * k)
-    → same ≡ sameTriple v w → (eqb (v .op) 0 || same) ≡ presetKept presets program k
-unfolding presetKept
+    → same ≡ sameTriple v w → (eqb (v .op) 0 || same) ≡ presetHeld presets program k
+unfolding presetHeld
 preset-test presets program k v w same e f g = rw (← e, ← f) (rw g refl)
+
+-- line number k, counted through all procedures, is line k % (n + 1) of procedure k / (n + 1), and begins at 3 * k
+pub line-offset : (b : Bounds) (k : ℕ) → lineOffset b (record { 0 = k / (b .last + 1) }) (record { 0 = k % (b .last + 1) }) ≡ 3 * k
+unfolding lineOffset
+line-offset b k = rw (div-add-mod' k (b .last + 1)) refl

@@ -15,17 +15,18 @@ use Rattle.records.specs.declared.record.Found.{Found}
 use Rattle.records.specs.declared.record.Found.the-variants.{Record, Missing}
 use Rattle.records.proofs.Laws.Record.{record-ends}
 use Rattle.task.specs.Bounds.{boundsAt, inRange}
-use Rattle.task.specs.Facts.{literalsAt, within, consistent, consistentPairs}
-use Rattle.task.specs.Instruction.{placed, encode, tripleAt, withTriple}
+use Rattle.task.specs.Facts.{literalsAt, within, consistent, pairsBeforeFault}
+use Rattle.task.specs.Instruction.{decodeFor, encode, tripleAt, withTriple}
 use Rattle.task.specs.Program.{lineOffset}
+use Rattle.task.specs.Outcome.{turned}
 use Rattle.task.specs.Questions.{WHOLE, KIND, LENGTH, COUNT, BOUNDS, SETS, PRESET, REPEATED, CLOSED}
-use Rattle.task.specs.Reading.{State, ask, refused, mayStand, byKind, lengthFits, headerTurn, actionTurn, onPreset, presetTurn, caseTurn, closeTurn, onRecord, turnOf, turned}
+use Rattle.task.specs.Reading.{State, ask, refused, mayStand, byKind, lengthFits, headerTurn, actionTurn, onPreset, presetTurn, caseTurn, closeTurn, onRecord, turnOf}
 use Rattle.task.specs.declared.bounds.Bounds.{Bounds}
 use Rattle.task.specs.declared.facts.Literals.{Literals}
 use Rattle.task.specs.declared.instruction.Triple.{Triple}
 use Rattle.task.specs.declared.instruction.Instruction.{Instruction}
 use Rattle.task.specs.declared.instruction.Decoded.{Decoded}
-use Rattle.task.specs.declared.instruction.Decoded.the-variants.{Allowed, Forbidden}
+use Rattle.task.specs.declared.instruction.Decoded.the-variants.{Is, Nothing}
 use Rattle.task.specs.declared.reading.Outcome.the-variants.{Next, Refused, Closed}
 use Rattle.task.specs.declared.reading.Progress.{Progress}
 use Rattle.task.specs.declared.reading.Reading.{Reading}
@@ -61,30 +62,30 @@ module _ {A : Type 0} (kind : ℕ) (header action preset case close : A) where
   unfolding byKind
   by-close h₁ h₂ h₃ h₄ = simp (ne-eqb kind 1 h₁, ne-eqb kind 2 h₂, ne-eqb kind 3 h₃, ne-eqb kind 4 h₄)
 
-module _ (bytes : List ℕ) (p : Progress) (start next : ℕ) (o q : List ℕ) where
+module _ (bytes : List ℕ) (p : Progress) (body next : ℕ) (o q : List ℕ) where
   abbrev s : State
   s = record { progress = p; offsets = o; presets = q }
 
-  module _ (b : Bounds) (r : Bool) (e : b ≡ boundsAt bytes start) (f : r ≡ inRange b) where
-    pub header-no : r ≡ false → turned (p .index) (Refused BOUNDS (p .at)) o q ≡ headerTurn bytes s start next
+  module _ (b : Bounds) (r : Bool) (e : b ≡ boundsAt bytes body) (f : r ≡ inRange b) where
+    pub header-no : r ≡ false → turned (p .index) (Refused BOUNDS (p .at)) o q ≡ headerTurn bytes s body next
     unfolding turned headerTurn
     header-no h = ask-no _ _ _ _ (cc)
 
     pub header-yes : r ≡ true
         → turned (p .index) (Next (record { at = next; section = Header; index = record { bounds = b; actions = 0; cases = 0; first = 0 } })) o q
-        ≡ headerTurn bytes s start next
+        ≡ headerTurn bytes s body next
     unfolding turned headerTurn
     header-yes h = rw e (ask-yes _ _ _ _ (cc))
 
-  pub action-full : (size : ℕ) → 64 ≤ p .index .actions → turned (p .index) (Refused COUNT (p .at)) o q ≡ actionTurn bytes s start size next
+  pub action-full : (size : ℕ) → 64 ≤ p .index .actions → turned (p .index) (Refused COUNT (p .at)) o q ≡ actionTurn bytes s body size next
   unfolding turned actionTurn
   action-full size h = ask-no _ _ _ _ (le-ltb (p .index .actions) 64 h)
 
-  module _ (size pairs : ℕ) (h : p .index .actions < 64) (e : pairs ≡ consistentPairs (p .index .bounds .facts) bytes start (size / 16)) where
+  module _ (size pairs : ℕ) (h : p .index .actions < 64) (e : pairs ≡ pairsBeforeFault (p .index .bounds .facts) bytes body (size / 16)) where
     counted : ltb (p .index .actions) 64 ≡ true
     counted = lt-ltb (p .index .actions) 64 h
 
-    pub action-no : (pairs ≡ size / 16 → ⊥) → turned (p .index) (Refused SETS (p .at)) o q ≡ actionTurn bytes s start size next
+    pub action-no : (pairs ≡ size / 16 → ⊥) → turned (p .index) (Refused SETS (p .at)) o q ≡ actionTurn bytes s body size next
     unfolding turned actionTurn
     action-no n = ask-no _ _ _ _ (rw (← e) (ne-eqb pairs (size / 16) n)) ∙ ask-yes _ _ _ _ counted
 
@@ -92,44 +93,44 @@ module _ (bytes : List ℕ) (p : Progress) (start next : ℕ) (o q : List ℕ) w
         → turned (p .index)
         (Next (record { at = next; section = Actions; index = record { bounds = p .index .bounds; actions = p .index .actions + 1; cases = p .index .cases; first = p .index .first } }))
         (set o (p .index .actions) (p .at)) q
-        ≡ actionTurn bytes s start size next
+        ≡ actionTurn bytes s body size next
     unfolding turned actionTurn
     action-yes y = ask-yes _ _ _ _ (rw (← e) (eq-eqb pairs (size / 16) y)) ∙ ask-yes _ _ _ _ counted
 
   module _ (procedure line : ℕ) (t : Triple) (d : Decoded)
-      (e₁ : procedure ≡ byteAt bytes start) (e₂ : line ≡ byteAt bytes (start + 1)) (e₃ : t ≡ tripleAt bytes (start + 2))
-      (e₄ : d ≡ placed (p .index .bounds) (p .index .actions) procedure line t) where
-    on-preset : onPreset bytes s start next d ≡ presetTurn bytes s start next
+      (e₁ : procedure ≡ byteAt bytes body) (e₂ : line ≡ byteAt bytes (body + 1)) (e₃ : t ≡ tripleAt bytes (body + 2))
+      (e₄ : d ≡ decodeFor (p .index .bounds) (p .index .actions) (record { 0 = procedure }) (record { 0 = line }) t) where
+    on-preset : onPreset bytes s body next d ≡ presetTurn bytes s body next
     unfolding presetTurn
     on-preset = rw (e₄, e₁, e₂, e₃) refl
 
-    pub preset-no : d ≡ Forbidden → turned (p .index) (Refused PRESET (p .at)) o q ≡ presetTurn bytes s start next
+    pub preset-no : d ≡ Nothing → turned (p .index) (Refused PRESET (p .at)) o q ≡ presetTurn bytes s body next
     unfolding turned onPreset
     preset-no h = rw h at on-preset
 
-    module _ (w : Instruction) (a : d ≡ Allowed w) (offset byte : ℕ) (f : offset ≡ lineOffset (p .index .bounds) procedure line) (g : byte ≡ byteAt q offset) where
-      here : byte ≡ byteAt q (lineOffset (p .index .bounds) (byteAt bytes start) (byteAt bytes (start + 1)))
+    module _ (w : Instruction) (a : d ≡ Is w) (offset byte : ℕ) (f : offset ≡ lineOffset (p .index .bounds) (record { 0 = procedure }) (record { 0 = line })) (g : byte ≡ byteAt q offset) where
+      here : byte ≡ byteAt q (lineOffset (p .index .bounds) (record { 0 = byteAt bytes body }) (record { 0 = byteAt bytes (body + 1) }))
       here = cc
 
-      pub preset-again : (byte ≡ 0 → ⊥) → turned (p .index) (Refused REPEATED (p .at)) o q ≡ presetTurn bytes s start next
+      pub preset-again : (byte ≡ 0 → ⊥) → turned (p .index) (Refused REPEATED (p .at)) o q ≡ presetTurn bytes s body next
       unfolding turned onPreset
       preset-again n = ask-no _ _ _ _ (rw (← here) (ne-eqb byte 0 n)) ∙ rw a at on-preset
 
       pub preset-yes : (q′ : List ℕ) → q′ ≡ withTriple q offset (encode w) → byte ≡ 0
-          → turned (p .index) (Next (record { at = next; section = Presets; index = p .index })) o q′ ≡ presetTurn bytes s start next
+          → turned (p .index) (Next (record { at = next; section = Presets; index = p .index })) o q′ ≡ presetTurn bytes s body next
       unfolding turned onPreset
       preset-yes q′ h z = rw (h, f, e₁, e₂) (ask-yes _ _ _ _ (rw (← here) (eq-eqb byte 0 z)) ∙ rw a at on-preset)
 
-  pub case-full : 32 ≤ p .index .cases → turned (p .index) (Refused COUNT (p .at)) o q ≡ caseTurn bytes s start next
+  pub case-full : 32 ≤ p .index .cases → turned (p .index) (Refused COUNT (p .at)) o q ≡ caseTurn bytes s body next
   unfolding turned caseTurn
   case-full h = ask-no _ _ _ _ (le-ltb (p .index .cases) 32 h)
 
-  module _ (h : p .index .cases < 32) (set : ℕ) (goal : Literals) (i c : Bool) (e₁ : set ≡ u64At bytes start) (e₂ : goal ≡ literalsAt bytes (start + 8))
+  module _ (h : p .index .cases < 32) (set : ℕ) (goal : Literals) (i c : Bool) (e₁ : set ≡ u64At bytes body) (e₂ : goal ≡ literalsAt bytes (body + 8))
       (e₃ : i ≡ within (p .index .bounds .facts) set) (e₄ : c ≡ consistent (p .index .bounds .facts) goal) where
     few : ltb (p .index .cases) 32 ≡ true
     few = lt-ltb (p .index .cases) 32 h
 
-    pub case-no : (i && c) ≡ false → turned (p .index) (Refused SETS (p .at)) o q ≡ caseTurn bytes s start next
+    pub case-no : (i && c) ≡ false → turned (p .index) (Refused SETS (p .at)) o q ≡ caseTurn bytes s body next
     unfolding turned caseTurn
     case-no n = ask-no _ _ _ _ (cc) ∙ ask-yes _ _ _ _ few
 
@@ -137,7 +138,7 @@ module _ (bytes : List ℕ) (p : Progress) (start next : ℕ) (o q : List ℕ) w
         → turned (p .index)
         (Next (record { at = next; section = Cases; index = record { bounds = p .index .bounds; actions = p .index .actions; cases = p .index .cases + 1; first = first } }))
         o q
-        ≡ caseTurn bytes s start next
+        ≡ caseTurn bytes s body next
     unfolding turned caseTurn
     case-yes first f y = rw f (ask-yes _ _ _ _ (cc) ∙ ask-yes _ _ _ _ few)
 
@@ -158,9 +159,9 @@ module _ (kind size : ℕ) (l : Bool) (e : l ≡ lengthFits kind size) (y : l �
   case-size h = eqb-true size 24 (fits _ (by-case _ _ _ _ _ _ h))
 
 -- a record's body of a known size is in the file
-pub body-there : (bytes : List ℕ) (at : ℕ) (f : Found) → f ≡ recordAt bytes at → (kind start size next : ℕ) → f ≡ Record kind start size next
-    → (known : ℕ) → size ≡ known → start + known ≤ length bytes
-body-there bytes at f e kind start size next r known s = omega (arith, record-ends bytes at kind start size next (sym e ∙ r))
+pub body-there : (bytes : List ℕ) (at : ℕ) (f : Found) → f ≡ recordAt bytes at → (kind body size next : ℕ) → f ≡ Record kind body size next
+    → (known : ℕ) → size ≡ known → body + known ≤ length bytes
+body-there bytes at f e kind body size next r known s = omega (arith, record-ends bytes at kind body size next (sym e ∙ r))
 
 -- the record that `f` found at the reading's offset
 module _ (bytes : List ℕ) (p : Progress) (o q : List ℕ) (f : Found) (e : f ≡ recordAt bytes (p .at)) where
@@ -168,8 +169,8 @@ module _ (bytes : List ℕ) (p : Progress) (o q : List ℕ) (f : Found) (e : f �
   unfolding turned turnOf onRecord
   record-no h = rw (← e, h)
 
-  module _ (kind start size next : ℕ) (r : f ≡ Record kind start size next) where
-    on-record : onRecord bytes (record { progress = p; offsets = o; presets = q }) (Record kind start size next)
+  module _ (kind body size next : ℕ) (r : f ≡ Record kind body size next) where
+    on-record : onRecord bytes (record { progress = p; offsets = o; presets = q }) (Record kind body size next)
         ≡ turnOf bytes (record { progress = p; offsets = o; presets = q })
     unfolding turnOf
     on-record = rw (← e, r) refl
@@ -187,10 +188,10 @@ module _ (bytes : List ℕ) (p : Progress) (o q : List ℕ) (f : Found) (e : f �
         -- past questions 1 to 3 the turn is what the kind asks
         pub kind-turn : l ≡ true → (t : Turn State Reading)
             → t ≡ byKind kind
-            (headerTurn bytes (record { progress = p; offsets = o; presets = q }) start next)
-            (actionTurn bytes (record { progress = p; offsets = o; presets = q }) start size next)
-            (presetTurn bytes (record { progress = p; offsets = o; presets = q }) start next)
-            (caseTurn bytes (record { progress = p; offsets = o; presets = q }) start next)
+            (headerTurn bytes (record { progress = p; offsets = o; presets = q }) body next)
+            (actionTurn bytes (record { progress = p; offsets = o; presets = q }) body size next)
+            (presetTurn bytes (record { progress = p; offsets = o; presets = q }) body next)
+            (caseTurn bytes (record { progress = p; offsets = o; presets = q }) body next)
             (closeTurn bytes (record { progress = p; offsets = o; presets = q }) next)
             → t ≡ turnOf bytes (record { progress = p; offsets = o; presets = q })
         unfolding onRecord

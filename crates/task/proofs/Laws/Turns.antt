@@ -14,17 +14,16 @@ use Rattle.records.specs.declared.record.Found.{Found}
 use Rattle.records.specs.declared.record.Found.the-variants.{Record, Missing}
 use Rattle.records.proofs.Laws.Loop.{unroll}
 use Rattle.records.proofs.Laws.Record.{record-ends}
-use Rattle.task.specs.Instruction.{placed}
+use Rattle.task.specs.Outcome.{turned}
 use Rattle.task.specs.Questions.{WHOLE}
-use Rattle.task.specs.Reading.{State, begin, refused, ask, byKind, headerTurn, actionTurn, onPreset, presetTurn, caseTurn, closeTurn, onRecord, turnOf, left, readTask, turned}
+use Rattle.task.specs.Reading.{State, begin, refused, accepted, ask, byKind, headerTurn, actionTurn, onPreset, presetTurn, caseTurn, closeTurn, onRecord, turnOf, left, readTask}
 use Rattle.task.specs.declared.index.Index.{Index}
 use Rattle.task.specs.declared.instruction.Decoded.{Decoded}
-use Rattle.task.specs.declared.instruction.Decoded.the-variants.{Allowed, Forbidden}
+use Rattle.task.specs.declared.instruction.Decoded.the-variants.{Is, Nothing}
 use Rattle.task.specs.declared.reading.Outcome.{Outcome}
 use Rattle.task.specs.declared.reading.Outcome.the-variants.{Next, Refused, Closed}
 use Rattle.task.specs.declared.reading.Progress.{Progress}
 use Rattle.task.specs.declared.reading.Reading.{Reading}
-use Rattle.task.specs.declared.verdict.Verdict.the-variants.{Accepted}
 
 -- a turn that goes on goes to the offset `next`
 abbrev Goes : ℕ → Turn State Reading → Type 0
@@ -53,43 +52,43 @@ kind-goes next kind header action preset case close h₁ h₂ h₃ h₄ h₅ =
     (cond-goes next (eqb kind 2) _ _ h₂ (cond-goes next (eqb kind 3) _ _ h₃ (cond-goes next (eqb kind 4) _ _ h₄ h₅)))
 
 module _ (bytes : List ℕ) (s : State) where
-  header-goes : (start next : ℕ) → Goes next (headerTurn bytes s start next)
+  header-goes : (body next : ℕ) → Goes next (headerTurn bytes s body next)
   unfolding headerTurn
-  header-goes start next = ask-goes _ _ _ _ _ (go-goes _)
+  header-goes body next = ask-goes _ _ _ _ _ (go-goes _)
 
-  action-goes : (start size next : ℕ) → Goes next (actionTurn bytes s start size next)
+  action-goes : (body size next : ℕ) → Goes next (actionTurn bytes s body size next)
   unfolding actionTurn
-  action-goes start size next = ask-goes _ _ _ _ _ (ask-goes _ _ _ _ _ (go-goes _))
+  action-goes body size next = ask-goes _ _ _ _ _ (ask-goes _ _ _ _ _ (go-goes _))
 
-  on-preset-goes : (start next : ℕ) (d : Decoded) → Goes next (onPreset bytes s start next d)
+  on-preset-goes : (body next : ℕ) (d : Decoded) → Goes next (onPreset bytes s body next d)
   unfolding onPreset
-  on-preset-goes start next Forbidden = stop-goes next _
-  on-preset-goes start next (Allowed w) = ask-goes _ _ _ _ _ (go-goes _)
+  on-preset-goes body next Nothing = stop-goes next _
+  on-preset-goes body next (Is w) = ask-goes _ _ _ _ _ (go-goes _)
 
-  preset-goes : (start next : ℕ) → Goes next (presetTurn bytes s start next)
+  preset-goes : (body next : ℕ) → Goes next (presetTurn bytes s body next)
   unfolding presetTurn
-  preset-goes start next = on-preset-goes start next _
+  preset-goes body next = on-preset-goes body next _
 
-  case-goes : (start next : ℕ) → Goes next (caseTurn bytes s start next)
+  case-goes : (body next : ℕ) → Goes next (caseTurn bytes s body next)
   unfolding caseTurn
-  case-goes start next = ask-goes _ _ _ _ _ (ask-goes _ _ _ _ _ (go-goes _))
+  case-goes body next = ask-goes _ _ _ _ _ (ask-goes _ _ _ _ _ (go-goes _))
 
   close-goes : (next : ℕ) → Goes next (closeTurn bytes s next)
   unfolding closeTurn
   close-goes next = ask-goes _ _ _ _ _ (stop-goes next _)
 
-  record-goes : (kind start size next : ℕ) → Goes next (onRecord bytes s (Record kind start size next))
+  record-goes : (kind body size next : ℕ) → Goes next (onRecord bytes s (Record kind body size next))
   unfolding onRecord
-  record-goes kind start size next =
+  record-goes kind body size next =
       ask-goes _ _ _ _ _
       (ask-goes _ _ _ _ _
-      (kind-goes _ _ _ _ _ _ _ (header-goes start next) (action-goes start size next) (preset-goes start next) (case-goes start next) (close-goes next)))
+      (kind-goes _ _ _ _ _ _ _ (header-goes body next) (action-goes body size next) (preset-goes body next) (case-goes body next) (close-goes next)))
 
   found-falls : (f : Found) → recordAt bytes (s .progress .at) ≡ f → (t : State) → onRecord bytes s f ≡ go t → left bytes t < left bytes s
   unfolding onRecord
   found-falls Missing e t h = let z : _≡_ {A = ℕ} 0 1 = cc in absurd (omega arith)
-  found-falls (Record kind start size next) e t h =
-      omega (arith, record-ends bytes (s .progress .at) kind start size next e, record-goes kind start size next t h)
+  found-falls (Record kind body size next) e t h =
+      omega (arith, record-ends bytes (s .progress .at) kind body size next e, record-goes kind body size next t h)
 
   pub falls : (t : State) → turnOf bytes s ≡ go t → left bytes t < left bytes s
   unfolding turnOf
@@ -123,6 +122,6 @@ module _ (bytes : List ℕ) (s : State) (index : Index) (o q : List ℕ) (outcom
     from-refused question place h = rw h at step
 
     pub from-closed : outcome ≡ Closed
-        → record { verdict = Accepted 0; task = record { index = index; offsets = o; presets = q } } ≡ readTask bytes
+        → accepted (record { index = index; offsets = o; presets = q }) ≡ readTask bytes
     unfolding turned after
     from-closed h = rw h at step

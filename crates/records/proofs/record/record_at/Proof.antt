@@ -27,8 +27,8 @@ add-u16-at c = search needs
 u16-at-requires-2 : tie.Need-u16-at-requires-2
 u16-at-requires-2 c κs = search needs
 
-add-start : tie.Need-add-start
-add-start c = search needs
+add-body : tie.Need-add-body
+add-body c = search needs
 
 sub-if3 : tie.Need-sub-if3
 sub-if3 c = search needs
@@ -53,7 +53,7 @@ record-at-spec =
     cast-length
     add-u16-at
     u16-at-requires-2
-    add-start
+    add-body
     sub-if3
     returns-3
     add-t8

@@ -1,4 +1,4 @@
--- `task::index::effect_at` meets its contract.
+-- `task::index::effect_at` meets its contract: condition, raised and lowered are each read where the definition says.
 -- Assumes nothing.
 use borrow.Author.Needs.{needs}
 use Rattle.task.specs.Index.{effectAt}
@@ -7,6 +7,7 @@ use Rattle.task.proofs.index.effect_at.Tie as tie
 use Rattle.task.proofs.index.effect_at.Reads as reads
 use Rattle.task.proofs.index.effect_at.Lts as lts
 use Rattle.task.proofs.index.literals_after.Reads as literals-after-reads
+use Rattle.task.proofs.index.set_after.Reads as set-after-reads
 
 mul-from : tie.Need-mul-from
 mul-from c = search needs
@@ -17,15 +18,22 @@ add-literals-after c = search needs
 literals-after-requires : tie.Need-literals-after-requires
 literals-after-requires c κs = search needs
 
-add-literals-after-2 : tie.Need-add-literals-after-2
-add-literals-after-2 c = search needs
+add-set-after : tie.Need-add-set-after
+add-set-after c = search needs
 
-literals-after-requires-2 : tie.Need-literals-after-requires-2
-literals-after-requires-2 c κs = search needs
+set-after-requires : tie.Need-set-after-requires
+set-after-requires c κs = search needs
+
+add-set-after-2 : tie.Need-add-set-after-2
+add-set-after-2 c = search needs
+
+set-after-requires-2 : tie.Need-set-after-requires-2
+set-after-requires-2 c κs = search needs
 
 returns : tie.Need-returns
 unfolding effectAt
-returns c = λ i. record { condition = c .before .literals-after .ensures i; literals = c .literals-after2 .ensures i }
+returns c = λ i.
+    record { condition = c .before .before .literals-after .ensures i; raised = c .before .set-after .ensures i; lowered = c .set-after2 .ensures i }
 
 pub effect-at-spec : {M : Type 1} → statement M
 effect-at-spec =
@@ -34,6 +42,8 @@ effect-at-spec =
     mul-from
     add-literals-after
     literals-after-requires
-    add-literals-after-2
-    literals-after-requires-2
+    add-set-after
+    set-after-requires
+    add-set-after-2
+    set-after-requires-2
     returns)

@@ -17,7 +17,7 @@ use Rattle.task.proofs.program.allowed_lines.Lts as lts
 use Rattle.task.proofs.bounds.line_count.Reads as line-count-reads
 use Rattle.task.proofs.instruction.decode.Reads as decode-reads
 use Rattle.task.proofs.instruction.triple_at.Reads as triple-at-reads
-use Rattle.task.proofs.program.decodes.Reads as decodes-reads
+use Rattle.task.proofs.program.is_instruction.Reads as is-instruction-reads
 
 abbrev Inv-loop : tie.InvT-loop
 Inv-loop index program bounds last count k₀ line₀ k line = Searching (lineAllowed index program) count k × (line ≡ k % (last + 1))
@@ -43,8 +43,8 @@ triple-at-requires c κs = search needs
 decode-requires : tie.Need-decode-requires Inv-loop μ-loop
 decode-requires c κs = search needs
 
-decodes-requires : tie.Need-decodes-requires Inv-loop μ-loop
-decodes-requires c κs = search needs
+is-instruction-requires : tie.Need-is-instruction-requires Inv-loop μ-loop
+is-instruction-requires c κs = search needs
 
 add-k : tie.Need-add-k Inv-loop μ-loop
 add-k c = search needs
@@ -56,16 +56,16 @@ loop-less : tie.Need-loop-less Inv-loop μ-loop
 loop-less c = search needs
 
 loop-again : tie.Need-loop-again Inv-loop μ-loop
-loop-again c = (found-yes _ _ _ (c .before .before .before .before .before .before .loop .inv .0) (c .before .before .before .before .before .loop-test .taken) (line-test _ _ _ _ _ _ _ _ (c .before .before .before .before .before .before .loop .inv .1) (c .before .before .before .before .triple-at .ensures) (c .before .before .before .decode .ensures) (c .before .before .decodes .ensures) (c .before .if1 .taken)), line-next _ _ _ (c .before .before .before .before .before .before .loop .inv .1) (c .if2 .taken))
+loop-again c = (found-yes _ _ _ (c .before .before .before .before .before .before .loop .inv .0) (c .before .before .before .before .before .loop-test .taken) (line-test _ _ _ _ _ _ _ _ (c .before .before .before .before .before .before .loop .inv .1) (c .before .before .before .before .triple-at .ensures) (c .before .before .before .decode .ensures) (c .before .before .is-instruction .ensures) (c .before .if1 .taken)), line-next _ _ _ (c .before .before .before .before .before .before .loop .inv .1) (c .if2 .taken))
 
 loop-less-2 : tie.Need-loop-less-2 Inv-loop μ-loop
 loop-less-2 c = search needs
 
 loop-again-2 : tie.Need-loop-again-2 Inv-loop μ-loop
-loop-again-2 c = (found-yes _ _ _ (c .before .before .before .before .before .before .loop .inv .0) (c .before .before .before .before .before .loop-test .taken) (line-test _ _ _ _ _ _ _ _ (c .before .before .before .before .before .before .loop .inv .1) (c .before .before .before .before .triple-at .ensures) (c .before .before .before .decode .ensures) (c .before .before .decodes .ensures) (c .before .if1 .taken)), line-again _ _ _ (c .before .before .before .before .before .before .loop .inv .1) (c .if2 .left))
+loop-again-2 c = (found-yes _ _ _ (c .before .before .before .before .before .before .loop .inv .0) (c .before .before .before .before .before .loop-test .taken) (line-test _ _ _ _ _ _ _ _ (c .before .before .before .before .before .before .loop .inv .1) (c .before .before .before .before .triple-at .ensures) (c .before .before .before .decode .ensures) (c .before .before .is-instruction .ensures) (c .before .if1 .taken)), line-again _ _ _ (c .before .before .before .before .before .before .loop .inv .1) (c .if2 .left))
 
 returns : tie.Need-returns Inv-loop μ-loop
-returns c = found-no _ _ _ (c .before .before .before .before .before .loop .inv .0) (c .before .before .before .before .loop-test .taken) (line-test _ _ _ _ _ _ _ _ (c .before .before .before .before .before .loop .inv .1) (c .before .before .before .triple-at .ensures) (c .before .before .decode .ensures) (c .before .decodes .ensures) (c .if1 .left)) ∙ ap (firstNo _) (c .before .before .before .before .before .before .line-count .ensures)
+returns c = found-no _ _ _ (c .before .before .before .before .before .loop .inv .0) (c .before .before .before .before .loop-test .taken) (line-test _ _ _ _ _ _ _ _ (c .before .before .before .before .before .loop .inv .1) (c .before .before .before .triple-at .ensures) (c .before .before .decode .ensures) (c .before .is-instruction .ensures) (c .if1 .left)) ∙ ap (firstNo _) (c .before .before .before .before .before .before .line-count .ensures)
 
 returns-2 : tie.Need-returns-2 Inv-loop μ-loop
 returns-2 c = found-none _ _ _ (c .before .loop .inv .0) (c .loop-test .left) ∙ ap (firstNo _) (c .before .before .line-count .ensures)
@@ -82,7 +82,7 @@ allowed-lines-spec =
     mul-triple-at
     triple-at-requires
     decode-requires
-    decodes-requires
+    is-instruction-requires
     add-k
     add-line
     loop-less

@@ -9,7 +9,7 @@ use Rattle.task.proofs.program.check_program.Reads as reads
 use Rattle.task.proofs.program.check_program.Lts as lts
 use Rattle.task.proofs.bounds.line_count.Reads as line-count-reads
 use Rattle.task.proofs.program.allowed_lines.Reads as allowed-lines-reads
-use Rattle.task.proofs.program.kept_presets.Reads as kept-presets-reads
+use Rattle.task.proofs.program.held_presets.Reads as held-presets-reads
 
 line-count-requires : tie.Need-line-count-requires
 line-count-requires c κs = search needs
@@ -32,17 +32,17 @@ mul-t12 c = search needs
 returns-2 : tie.Need-returns-2
 returns-2 c = lines-no _ _ _ _ (c .before .before .before .line-count .ensures) (c .before .before .if1 .left) _ (c .before .allowed-lines .ensures) (c .if2 .taken)
 
-kept-presets-requires : tie.Need-kept-presets-requires
-kept-presets-requires c κs = search needs
+held-presets-requires : tie.Need-held-presets-requires
+held-presets-requires c κs = search needs
 
 mul-t13 : tie.Need-mul-t13
 mul-t13 c = search needs
 
 returns-3 : tie.Need-returns-3
-returns-3 c = presets-no _ _ _ _ (c .before .before .before .before .before .line-count .ensures) (c .before .before .before .before .if1 .left) _ (c .before .before .before .allowed-lines .ensures) (c .before .before .if2 .left) _ (c .before .kept-presets .ensures) (c .if3 .taken)
+returns-3 c = presets-no _ _ _ _ (c .before .before .before .before .before .line-count .ensures) (c .before .before .before .before .if1 .left) _ (c .before .before .before .allowed-lines .ensures) (c .before .before .if2 .left) _ (c .before .held-presets .ensures) (c .if3 .taken)
 
 returns-4 : tie.Need-returns-4
-returns-4 c = program-good _ _ _ _ (c .before .before .before .before .before .line-count .ensures) (c .before .before .before .before .if1 .left) _ (c .before .before .before .allowed-lines .ensures) (c .before .before .if2 .left) _ (c .before .kept-presets .ensures) (c .if3 .left)
+returns-4 c = program-good _ _ _ _ (c .before .before .before .before .before .line-count .ensures) (c .before .before .before .before .if1 .left) _ (c .before .before .before .allowed-lines .ensures) (c .before .before .if2 .left) _ (c .before .held-presets .ensures) (c .if3 .left)
 
 pub check-program-spec : {M : Type 1} → statement M
 check-program-spec =
@@ -55,7 +55,7 @@ check-program-spec =
     allowed-lines-requires
     mul-t12
     returns-2
-    kept-presets-requires
+    held-presets-requires
     mul-t13
     returns-3
     returns-4)

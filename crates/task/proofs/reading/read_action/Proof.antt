@@ -7,7 +7,7 @@ use Rattle.task.proofs.reading.read_action.Statement.{statement}
 use Rattle.task.proofs.reading.read_action.Tie as tie
 use Rattle.task.proofs.reading.read_action.Reads as reads
 use Rattle.task.proofs.reading.read_action.Lts as lts
-use Rattle.task.proofs.facts.consistent_pairs.Reads as consistent-pairs-reads
+use Rattle.task.proofs.facts.pairs_before_fault.Reads as pairs-before-fault-reads
 
 cast-number : tie.Need-cast-number
 cast-number c = search needs
@@ -15,11 +15,11 @@ cast-number c = search needs
 returns : tie.Need-returns
 returns c = λ q. action-full _ _ _ _ _ q _ (c .if1 .taken)
 
-consistent-pairs-requires : tie.Need-consistent-pairs-requires
-consistent-pairs-requires c κs = search needs
+pairs-before-fault-requires : tie.Need-pairs-before-fault-requires
+pairs-before-fault-requires c κs = search needs
 
 returns-2 : tie.Need-returns-2
-returns-2 c = λ q. action-no _ _ _ _ _ q _ _ (omega arith) (c .before .consistent-pairs .ensures) (c .if2 .taken)
+returns-2 c = λ q. action-no _ _ _ _ _ q _ _ (omega arith) (c .before .pairs-before-fault .ensures) (c .if2 .taken)
 
 mul-offsets : tie.Need-mul-offsets
 mul-offsets c = search needs
@@ -31,7 +31,7 @@ add-t17 : tie.Need-add-t17
 add-t17 c = search needs
 
 returns-3 : tie.Need-returns-3
-returns-3 c = λ q. action-yes _ _ _ _ _ q _ _ (omega arith) (c .before .before .consistent-pairs .ensures) (c .before .if2 .left)
+returns-3 c = λ q. action-yes _ _ _ _ _ q _ _ (omega arith) (c .before .before .pairs-before-fault .ensures) (c .before .if2 .left)
 
 pub read-action-spec : {M : Type 1} → statement M
 read-action-spec =
@@ -39,7 +39,7 @@ read-action-spec =
     (tie.spec
     cast-number
     returns
-    consistent-pairs-requires
+    pairs-before-fault-requires
     returns-2
     mul-offsets
     element-write-offsets

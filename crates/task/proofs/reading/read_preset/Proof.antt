@@ -10,7 +10,7 @@ use Rattle.task.proofs.reading.read_preset.Reads as reads
 use Rattle.task.proofs.reading.read_preset.Lts as lts
 use Rattle.records.proofs.numbers.byte_at.Reads as byte-at-reads
 use Rattle.task.proofs.instruction.encode.Reads as encode-reads
-use Rattle.task.proofs.instruction.placed.Reads as placed-reads
+use Rattle.task.proofs.instruction.decode_for.Reads as decode-for-reads
 use Rattle.task.proofs.instruction.put_triple.Reads as put-triple-reads
 use Rattle.task.proofs.instruction.triple_at.Reads as triple-at-reads
 use Rattle.task.proofs.program.line_offset.Reads as line-offset-reads
@@ -30,8 +30,8 @@ add-triple-at c = search needs
 triple-at-requires : tie.Need-triple-at-requires
 triple-at-requires c κs = search needs
 
-placed-requires : tie.Need-placed-requires
-placed-requires c κs = search needs
+decode-for-requires : tie.Need-decode-for-requires
+decode-for-requires c κs = search needs
 
 enum-known-decoded : tie.Need-enum-known-decoded
 enum-known-decoded c = search needs
@@ -40,7 +40,7 @@ enum-told : tie.Need-enum-told
 enum-told c = search needs
 
 returns : tie.Need-returns
-returns c = λ o. preset-no _ _ _ _ o _ _ _ _ _ (c .before .before .before .before .before .byte-at .ensures) (c .before .before .before .before .byte-at2 .ensures) (c .before .before .before .triple-at .ensures) (c .before .before .placed .ensures) (c .enum-told .given .1)
+returns c = λ o. preset-no _ _ _ _ o _ _ _ _ _ (c .before .before .before .before .before .byte-at .ensures) (c .before .before .before .before .byte-at2 .ensures) (c .before .before .before .triple-at .ensures) (c .before .before .decode-for .ensures) (c .enum-told .given .1)
 
 line-offset-requires : tie.Need-line-offset-requires
 line-offset-requires c κs = search needs
@@ -52,7 +52,7 @@ same-length : tie.Need-same-length
 same-length c = search needs
 
 returns-2 : tie.Need-returns-2
-returns-2 c = λ o. preset-again _ _ _ _ o _ _ _ _ _ (c .before .before .before .before .before .before .before .before .before .before .byte-at .ensures) (c .before .before .before .before .before .before .before .before .before .byte-at2 .ensures) (c .before .before .before .before .before .before .before .before .triple-at .ensures) (c .before .before .before .before .before .before .before .placed .ensures) _ (c .before .before .before .before .before .decoded .given .1) _ _ (c .before .before .before .line-offset .ensures) (c .before .byte-at3 .ensures) (c .if1 .taken)
+returns-2 c = λ o. preset-again _ _ _ _ o _ _ _ _ _ (c .before .before .before .before .before .before .before .before .before .before .byte-at .ensures) (c .before .before .before .before .before .before .before .before .before .byte-at2 .ensures) (c .before .before .before .before .before .before .before .before .triple-at .ensures) (c .before .before .before .before .before .before .before .decode-for .ensures) _ (c .before .before .before .before .before .decoded .given .1) _ _ (c .before .before .before .line-offset .ensures) (c .before .byte-at3 .ensures) (c .if1 .taken)
 
 encode-requires : tie.Need-encode-requires
 encode-requires c κs = search needs
@@ -64,7 +64,7 @@ same-length-2 : tie.Need-same-length-2
 same-length-2 c = search needs
 
 returns-3 : tie.Need-returns-3
-returns-3 c = λ o. preset-yes _ _ _ _ o _ _ _ _ _ (c .before .before .before .before .before .before .before .before .before .before .before .before .before .before .before .byte-at .ensures) (c .before .before .before .before .before .before .before .before .before .before .before .before .before .before .byte-at2 .ensures) (c .before .before .before .before .before .before .before .before .before .before .before .before .before .triple-at .ensures) (c .before .before .before .before .before .before .before .before .before .before .before .before .placed .ensures) _ (c .before .before .before .before .before .before .before .before .before .before .decoded .given .1) _ _ (c .before .before .before .before .before .before .before .before .line-offset .ensures) (c .before .before .before .before .before .before .byte-at3 .ensures) _ (c .before .before .put-triple .ensures ∙ ap (withTriple _ _) (c .before .before .before .encode .ensures)) (c .before .before .before .before .before .if1 .left)
+returns-3 c = λ o. preset-yes _ _ _ _ o _ _ _ _ _ (c .before .before .before .before .before .before .before .before .before .before .before .before .before .before .before .byte-at .ensures) (c .before .before .before .before .before .before .before .before .before .before .before .before .before .before .byte-at2 .ensures) (c .before .before .before .before .before .before .before .before .before .before .before .before .before .triple-at .ensures) (c .before .before .before .before .before .before .before .before .before .before .before .before .decode-for .ensures) _ (c .before .before .before .before .before .before .before .before .before .before .decoded .given .1) _ _ (c .before .before .before .before .before .before .before .before .line-offset .ensures) (c .before .before .before .before .before .before .byte-at3 .ensures) _ (c .before .before .put-triple .ensures ∙ ap (withTriple _ _) (c .before .before .before .encode .ensures)) (c .before .before .before .before .before .if1 .left)
 
 pub read-preset-spec : {M : Type 1} → statement M
 read-preset-spec =
@@ -75,7 +75,7 @@ read-preset-spec =
     byte-at-requires-2
     add-triple-at
     triple-at-requires
-    placed-requires
+    decode-for-requires
     enum-known-decoded
     enum-told
     returns

@@ -4,7 +4,7 @@ use Prim.Native.Nat.{_-_}
 use mathlib.Core.Path.{_≡_, refl, _∙_}
 use lib.ListN.{length}
 use borrow.Author.Needs.{needs}
-use Rattle.task.specs.Reading.{begin, readTask}
+use Rattle.task.specs.Reading.{noTask, begin, accepted, readTask}
 use Rattle.task.proofs.Laws.Turns.{from, from-begin, from-next, from-refused, from-closed, next-falls}
 use Rattle.task.proofs.reading.read_task.Statement.{statement}
 use Rattle.task.proofs.reading.read_task.Tie as tie
@@ -19,9 +19,12 @@ Inv-loop task offsets₀ presets₀ progress₀ offsets presets progress = (from
 abbrev μ-loop : tie.MeasureT-loop
 μ-loop task offsets₀ presets₀ progress₀ offsets presets progress = length task - progress .at
 
+no-index-requires : tie.Need-no-index-requires Inv-loop μ-loop
+no-index-requires c κs = search needs
+
 loop-holds : tie.Need-loop-holds Inv-loop μ-loop
-unfolding begin
-loop-holds c = (from-begin _, refl)
+unfolding begin noTask
+loop-holds c = (rw (c .no-index .ensures) (from-begin _), refl)
 
 slice-aggregate-read-record : tie.Need-slice-aggregate-read-record Inv-loop μ-loop
 slice-aggregate-read-record c = search needs
@@ -51,6 +54,7 @@ enum-told : tie.Need-enum-told Inv-loop μ-loop
 enum-told c = search needs
 
 returns-2 : tie.Need-returns-2 Inv-loop μ-loop
+unfolding accepted
 returns-2 c = from-closed _ _ _ _ _ _ (c .before .before .before .before .read-record .ensures) (c .before .before .before .before .before .before .before .loop .inv .0) (c .before .enum-told .given .1)
 
 pub read-task-spec : {M : Type 1} → statement M
@@ -59,6 +63,7 @@ read-task-spec =
     (tie.spec
     Inv-loop
     μ-loop
+    no-index-requires
     loop-holds
     slice-aggregate-read-record
     read-record-requires

@@ -1,15 +1,19 @@
--- `task::reading::refused` meets its contract.
+-- `task::reading::refused` meets its contract: the index is none, and the arrays are zeros.
 -- Assumes nothing.
-use mathlib.Core.Path.{refl}
-use Rattle.task.specs.Reading.{refused}
+use borrow.Author.Needs.{needs}
+use Rattle.task.specs.Reading.{noTask, refused}
 use Rattle.task.proofs.reading.refused.Statement.{statement}
 use Rattle.task.proofs.reading.refused.Tie as tie
 use Rattle.task.proofs.reading.refused.Reads as reads
 use Rattle.task.proofs.reading.refused.Lts as lts
+use Rattle.task.proofs.reading.no_index.Reads as no-index-reads
+
+no-index-requires : tie.Need-no-index-requires
+no-index-requires c κs = search needs
 
 returns : tie.Need-returns
-unfolding refused
-returns c = refl
+unfolding refused noTask
+returns c = rw (c .no-index .ensures)
 
 pub refused-spec : {M : Type 1} → statement M
-refused-spec = tie.close (tie.spec returns)
+refused-spec = tie.close (tie.spec no-index-requires returns)

@@ -1,11 +1,11 @@
--- `task::program::preset_kept` meets its contract.
+-- `task::program::preset_held` meets its contract.
 -- Assumes nothing.
 use borrow.Author.Needs.{needs}
 use Rattle.task.proofs.Laws.Program.{preset-test}
-use Rattle.task.proofs.program.preset_kept.Statement.{statement}
-use Rattle.task.proofs.program.preset_kept.Tie as tie
-use Rattle.task.proofs.program.preset_kept.Reads as reads
-use Rattle.task.proofs.program.preset_kept.Lts as lts
+use Rattle.task.proofs.program.preset_held.Statement.{statement}
+use Rattle.task.proofs.program.preset_held.Tie as tie
+use Rattle.task.proofs.program.preset_held.Reads as reads
+use Rattle.task.proofs.program.preset_held.Lts as lts
 use Rattle.task.proofs.instruction.triple_at.Reads as triple-at-reads
 use Rattle.task.proofs.program.same_triple.Reads as same-triple-reads
 
@@ -27,8 +27,8 @@ same-triple-requires c κs = search needs
 returns : tie.Need-returns
 returns c = preset-test _ _ _ _ _ _ (c .before .before .before .triple-at .ensures) (c .before .before .triple-at2 .ensures) (c .same-triple .ensures)
 
-pub preset-kept-spec : {M : Type 1} → statement M
-preset-kept-spec =
+pub preset-held-spec : {M : Type 1} → statement M
+preset-held-spec =
     tie.close
     (tie.spec
     mul-triple-at

@@ -1,22 +1,22 @@
--- `task::facts::consistent_pairs` meets its contract: it is the search for the first pair that fails question 6.
+-- `task::facts::pairs_before_fault` meets its contract: it is the search for the first pair that fails question 6.
 -- Assumes nothing.
 use Prim.Native.Nat.{_-_}
 use mathlib.Core.Path.{_≡_}
 use mathlib.Core.Bool.{true, false}
 use borrow.Author.Needs.{needs}
 use native.Mathlib.Omega.{arith}
-use Rattle.task.specs.Facts.{consistentAt, consistentPairs}
+use Rattle.task.specs.Facts.{pairConsistent, pairsBeforeFault}
 use Rattle.task.proofs.Laws.Facts.{pair-test}
 use Rattle.task.proofs.Laws.First.{Searching, searching, found-yes, found-no, found-none}
-use Rattle.task.proofs.facts.consistent_pairs.Statement.{statement}
-use Rattle.task.proofs.facts.consistent_pairs.Tie as tie
-use Rattle.task.proofs.facts.consistent_pairs.Reads as reads
-use Rattle.task.proofs.facts.consistent_pairs.Lts as lts
+use Rattle.task.proofs.facts.pairs_before_fault.Statement.{statement}
+use Rattle.task.proofs.facts.pairs_before_fault.Tie as tie
+use Rattle.task.proofs.facts.pairs_before_fault.Reads as reads
+use Rattle.task.proofs.facts.pairs_before_fault.Lts as lts
 use Rattle.task.proofs.facts.consistent.Reads as consistent-reads
 use Rattle.task.proofs.facts.literals_at.Reads as literals-at-reads
 
 abbrev Inv-loop : tie.InvT-loop
-Inv-loop bytes at count facts k₀ k = Searching (consistentAt facts bytes at) count k
+Inv-loop bytes at count facts k₀ k = Searching (pairConsistent facts bytes at) count k
 
 abbrev μ-loop : tie.MeasureT-loop
 μ-loop bytes at count facts k₀ k = count - k
@@ -46,15 +46,15 @@ loop-again : tie.Need-loop-again Inv-loop μ-loop
 loop-again c = found-yes _ _ _ (c .before .before .before .before .loop .inv) (c .before .before .before .loop-test .taken) (pair-test _ _ _ _ _ _ _ (c .before .before .literals-at .ensures) (c .before .consistent .ensures) (c .if1 .taken))
 
 returns : tie.Need-returns Inv-loop μ-loop
-unfolding consistentPairs
+unfolding pairsBeforeFault
 returns c = found-no _ _ _ (c .before .before .before .before .loop .inv) (c .before .before .before .loop-test .taken) (pair-test _ _ _ _ _ _ _ (c .before .before .literals-at .ensures) (c .before .consistent .ensures) (c .if1 .left))
 
 returns-2 : tie.Need-returns-2 Inv-loop μ-loop
-unfolding consistentPairs
+unfolding pairsBeforeFault
 returns-2 c = found-none _ _ _ (c .before .loop .inv) (c .loop-test .left)
 
-pub consistent-pairs-spec : {M : Type 1} → statement M
-consistent-pairs-spec =
+pub pairs-before-fault-spec : {M : Type 1} → statement M
+pairs-before-fault-spec =
     tie.close
     (tie.spec
     Inv-loop
