@@ -43,18 +43,23 @@ fn write_verdict(verdict: Verdict) {
     write(b"\n");
 }
 
+fn write_effect(bytes: &[u8], at: usize, number: u16) {
+    let effect = effect_at(bytes, at, number);
+    write(b"; where");
+    write_literals(effect.condition);
+    write(b" raises");
+    write_number(b" ", effect.raised);
+    write_number(b" lowers ", effect.lowered);
+}
+
 fn write_action(bytes: &[u8], at: usize) {
     let action = action_at(bytes, at);
     write_number(b"  action at ", at as u64);
     write(b" needs");
     write_literals(action.precondition);
-    for e in 0..action.effects {
-        let effect = effect_at(bytes, at, e);
-        write(b"; where");
-        write_literals(effect.condition);
-        write(b" makes");
-        write_number(b" ", effect.raised);
-        write_number(b" ", effect.lowered);
+    let effects = action.effects;
+    for e in 0..effects {
+        write_effect(bytes, at, e);
     }
     write(b"\n");
 }

@@ -26,7 +26,7 @@ use Rattle.task.specs.Bounds.{boundsAt, between, inRange}
 use Rattle.task.specs.Instruction.{keep, spelled, allowed, whereAllowed, decode, decodeFor, encode, tripleAt, withTriple}
 use Rattle.task.specs.Program.{lineOffset}
 use Rattle.task.specs.Questions.{WHOLE}
-use Rattle.task.specs.Reading.{State, begin, refused, ask, mayStand, byKind, lengthFits, headerTurn, actionTurn, onPreset, presetTurn, caseTurn, closeTurn, onRecord, turnOf, left, readTask}
+use Rattle.task.specs.Reading.{State, noIndex, noTask, begin, refused, accepted, ask, mayStand, byKind, lengthFits, headerTurn, actionTurn, onPreset, presetTurn, caseTurn, closeTurn, onRecord, turnOf, left, readTask}
 use Rattle.task.specs.Verdict.{valueOf}
 use Rattle.task.specs.declared.bounds.Bounds.{Bounds}
 use Rattle.task.specs.declared.instruction.Line.{Line}
@@ -144,7 +144,7 @@ record Small (s : State) : Type 0 where
   room : s .progress .at + 9 * free (s .presets) 256 + 276 * (64 - s .progress .index .actions) + 28 * (32 - s .progress .index .cases) ≤ most
 
 begin-small : Small begin
-unfolding begin
+unfolding begin noTask noIndex
 begin-small =
     record {
       size = length-replicate {A = ℕ} 768 0;
@@ -245,7 +245,7 @@ module _ (bytes : List ℕ) (s : State) (small : Small s) where
     preset-good n = on-preset-good n _ refl
 
   close-good : (next : ℕ) → next ≡ s .progress .at + 4 → Good (closeTurn bytes s next)
-  unfolding closeTurn
+  unfolding closeTurn accepted
   close-good next n = ask-good _ _ _ _ (omega arith) (λ h. omega arith)
 
   found-good : (f : Found) → recordAt bytes (s .progress .at) ≡ f → Good (onRecord bytes s f)

@@ -1,7 +1,6 @@
 -- `task_tests::main` is safe and ends: the records left are counted down.
 -- Assumes nothing.
 use borrow.Author.Needs.{needs}
-use Prim.Native.Nat.{_-_, _≤_}
 use Rattle.task_tests.proofs.main.Statement.{statement}
 use Rattle.task_tests.proofs.main.Tie as tie
 

@@ -1,15 +1,15 @@
 -- `task_tests::write_action` is safe and ends: the effects are counted up.
 -- Assumes nothing.
 use borrow.Author.Needs.{needs}
-use Prim.Native.Nat.{_-_, _≤_}
+use Prim.Native.Nat.{_-_}
 use Rattle.task_tests.proofs.write_action.Statement.{statement}
 use Rattle.task_tests.proofs.write_action.Tie as tie
 
 abbrev Inv-loop : tie.InvT-loop
-Inv-loop bytes at e₀ t8 t9 t10 e-end e = Unit
+Inv-loop bytes at effects e₀ t8 e = Unit
 
 abbrev μ-loop : tie.MeasureT-loop
-μ-loop bytes at e₀ t8 t9 t10 e-end e = e-end - e
+μ-loop bytes at effects e₀ t8 e = effects - e
 
 action-at-requires : tie.Need-action-at-requires Inv-loop μ-loop
 action-at-requires c κs = search needs
@@ -32,26 +32,8 @@ write-literals-requires c κs = search needs
 loop-holds : tie.Need-loop-holds Inv-loop μ-loop
 loop-holds c = search needs
 
-effect-at-requires : tie.Need-effect-at-requires Inv-loop μ-loop
-effect-at-requires c κs = search needs
-
-slice-aggregate-write-2 : tie.Need-slice-aggregate-write-2 Inv-loop μ-loop
-slice-aggregate-write-2 c = search needs
-
-write-requires-2 : tie.Need-write-requires-2 Inv-loop μ-loop
-write-requires-2 c κs = search needs
-
-write-literals-requires-2 : tie.Need-write-literals-requires-2 Inv-loop μ-loop
-write-literals-requires-2 c κs = search needs
-
-slice-aggregate-write-3 : tie.Need-slice-aggregate-write-3 Inv-loop μ-loop
-slice-aggregate-write-3 c = search needs
-
-write-requires-3 : tie.Need-write-requires-3 Inv-loop μ-loop
-write-requires-3 c κs = search needs
-
-write-literals-requires-3 : tie.Need-write-literals-requires-3 Inv-loop μ-loop
-write-literals-requires-3 c κs = search needs
+write-effect-requires : tie.Need-write-effect-requires Inv-loop μ-loop
+write-effect-requires c κs = search needs
 
 add-e : tie.Need-add-e Inv-loop μ-loop
 add-e c = search needs
@@ -62,11 +44,11 @@ loop-less c = search needs
 loop-again : tie.Need-loop-again Inv-loop μ-loop
 loop-again c = search needs
 
-slice-aggregate-write-4 : tie.Need-slice-aggregate-write-4 Inv-loop μ-loop
-slice-aggregate-write-4 c = search needs
+slice-aggregate-write-2 : tie.Need-slice-aggregate-write-2 Inv-loop μ-loop
+slice-aggregate-write-2 c = search needs
 
-write-requires-4 : tie.Need-write-requires-4 Inv-loop μ-loop
-write-requires-4 c κs = search needs
+write-requires-2 : tie.Need-write-requires-2 Inv-loop μ-loop
+write-requires-2 c κs = search needs
 
 returns : tie.Need-returns Inv-loop μ-loop
 returns c = search needs
@@ -84,16 +66,10 @@ write-action-spec =
     write-requires
     write-literals-requires
     loop-holds
-    effect-at-requires
-    slice-aggregate-write-2
-    write-requires-2
-    write-literals-requires-2
-    slice-aggregate-write-3
-    write-requires-3
-    write-literals-requires-3
+    write-effect-requires
     add-e
     loop-less
     loop-again
-    slice-aggregate-write-4
-    write-requires-4
+    slice-aggregate-write-2
+    write-requires-2
     returns)

@@ -1,7 +1,7 @@
 -- `task_tests::write_actions` is safe and ends: the actions are counted up.
 -- Assumes nothing.
 use borrow.Author.Needs.{needs}
-use Prim.Native.Nat.{_-_, _≤_}
+use Prim.Native.Nat.{_-_}
 use Rattle.task_tests.proofs.write_actions.Statement.{statement}
 use Rattle.task_tests.proofs.write_actions.Tie as tie
 

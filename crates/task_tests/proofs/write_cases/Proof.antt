@@ -1,7 +1,7 @@
 -- `task_tests::write_cases` is safe and ends: the cases are counted up.
 -- Assumes nothing.
 use borrow.Author.Needs.{needs}
-use Prim.Native.Nat.{_-_, _≤_}
+use Prim.Native.Nat.{_-_}
 use Rattle.task_tests.proofs.write_cases.Statement.{statement}
 use Rattle.task_tests.proofs.write_cases.Tie as tie
 
