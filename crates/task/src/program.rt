@@ -109,11 +109,11 @@ pub fn check_program(index: Index, presets: &[u8], program: &[u8]) -> Verdict
             place: 3 * allowed,
         };
     }
-    let kept = held_presets(count, presets, program);
-    if kept < count {
+    let held = held_presets(count, presets, program);
+    if held < count {
         return Verdict::Refused {
             question: PROGRAM_PRESETS,
-            place: 3 * kept,
+            place: 3 * held,
         };
     }
     Verdict::Accepted { value: 0 }
