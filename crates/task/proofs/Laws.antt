@@ -1,4 +1,4 @@
--- The laws of the definitions in specs/, each under the name of the file that has the definition.
+-- The laws of the definitions in specs/, each in a file with the definition's name; those of Reading's loop are in Turns.
 pub mod Bounds
 pub mod Facts
 pub mod First

@@ -1,5 +1,5 @@
 -- The first place at which a test says no.
-use Prim.Native.Nat.{ℕ, zero, suc, _+_}
+use Prim.Native.Nat.{ℕ, zero, suc}
 use mathlib.Core.Bool.{Bool, cond}
 
 -- of the `left` places from `k` on, the first at which the test says no; `k + left` where none does

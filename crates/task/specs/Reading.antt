@@ -167,18 +167,22 @@ closeTurn bytes s next =
     ask (eqb next (length bytes)) CLOSED next
     (stop (accepted (record { index = s .progress .index; offsets = s .offsets; presets = s .presets })))
 
+-- what the record's kind asks
+unfoldable pub kindTurn : List ℕ → State → ℕ → ℕ → ℕ → ℕ → Turn State Reading
+kindTurn bytes s kind body size next =
+    byKind kind
+    (headerTurn bytes s body next)
+    (actionTurn bytes s body size next)
+    (presetTurn bytes s body next)
+    (caseTurn bytes s body next)
+    (closeTurn bytes s next)
+
 -- what stands at the reading's offset: question 1, then 2 and 3, then what the kind asks
 unfoldable pub onRecord : List ℕ → State → Found → Turn State Reading
 onRecord bytes s Missing = stop (refused WHOLE (s .progress .at))
 onRecord bytes s (Record kind body size next) =
     ask (mayStand (s .progress .section) kind) KIND (s .progress .at)
-    (ask (lengthFits kind size) LENGTH (s .progress .at)
-    (byKind kind
-    (headerTurn bytes s body next)
-    (actionTurn bytes s body size next)
-    (presetTurn bytes s body next)
-    (caseTurn bytes s body next)
-    (closeTurn bytes s next)))
+    (ask (lengthFits kind size) LENGTH (s .progress .at) (kindTurn bytes s kind body size next))
 
 -- one turn of the reading
 unfoldable pub turnOf : List ℕ → State → Turn State Reading

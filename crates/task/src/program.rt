@@ -90,7 +90,7 @@ fn held_presets(count: usize, presets: &[u8], program: &[u8]) -> usize
     k
 }
 
-// Questions 25 to 27.
+// Questions 25 to 27, of a program for a task that passed with this index and these presets.
 pub fn check_program(index: Index, presets: &[u8], program: &[u8]) -> Verdict
     ensures { λ r. ⌜ r ≡ programVerdict index (now (presets .entry)) (now (program .entry)) ⌝ }
 {

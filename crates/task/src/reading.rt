@@ -33,10 +33,10 @@ use records::record::record_at;
 ghost use mathlib.Core.Path.{_≡_};
 ghost use Prim.Native.Nat.{ℕ, _+_, _≤_};
 ghost use mathlib.Core.List.{List};
-ghost use mathlib.Core.Bool.{cond};
+ghost use mathlib.Core.Bool.{true, cond};
 ghost use lib.Dec.{eqb};
 ghost use lib.ListN.{length};
-ghost use Rattle.task.specs.Reading.{mayStand, lengthFits, headerTurn, actionTurn, presetTurn, caseTurn, closeTurn, turnOf, noIndex, refused, readTask};
+ghost use Rattle.task.specs.Reading.{mayStand, lengthFits, headerTurn, actionTurn, presetTurn, caseTurn, closeTurn, kindTurn, turnOf, noIndex, refused, readTask};
 ghost use Rattle.task.specs.Outcome.{turned};
 
 // Where in the file the last record stood.
@@ -241,6 +241,37 @@ fn read_close(task: &[u8], progress: Progress, next: usize) -> Outcome
     }
 }
 
+// What a record's kind asks, its length being the kind's.
+fn read_body(
+    task: &[u8],
+    progress: Progress,
+    kind: u16,
+    body: usize,
+    size: usize,
+    next: usize,
+    offsets: &mut [usize; 64],
+    presets: &mut [u8],
+) -> Outcome
+    requires { ⌜ (body + size ≤ length (now task)) × (lengthFits kind size ≡ true) ⌝ }
+    ensures { λ r. ⌜
+        turned (progress .index) r (now (offsets .exit)) (now (presets .exit))
+        ≡ kindTurn
+        (now (task .entry))
+        (record { progress = progress; offsets = now (offsets .entry); presets = now (presets .entry) })
+        kind
+        body
+        size
+        next ⌝ }
+{
+    match kind {
+        1 => read_header(task, progress, body, next),
+        2 => read_action(task, progress, body, size, next, offsets),
+        3 => read_preset(task, progress, body, next, presets),
+        4 => read_case(task, progress, body, next),
+        _ => read_close(task, progress, next),
+    }
+}
+
 // One record: questions 1 to 3, and then what its kind asks.
 fn read_record(
     task: &[u8],
@@ -270,13 +301,7 @@ fn read_record(
     if !length_fits(kind, length) {
         return Outcome::Refused(LENGTH, at);
     }
-    match kind {
-        1 => read_header(task, progress, body, next),
-        2 => read_action(task, progress, body, length, next, offsets),
-        3 => read_preset(task, progress, body, next, presets),
-        4 => read_case(task, progress, body, next),
-        _ => read_close(task, progress, next),
-    }
+    read_body(task, progress, kind, body, length, next, offsets, presets)
 }
 
 // The index of no task.

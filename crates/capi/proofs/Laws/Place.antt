@@ -26,7 +26,7 @@ use Rattle.task.specs.Bounds.{boundsAt, between, inRange}
 use Rattle.task.specs.Instruction.{keep, spelled, allowed, whereAllowed, decode, decodeFor, encode, tripleAt, withTriple}
 use Rattle.task.specs.Program.{lineOffset}
 use Rattle.task.specs.Questions.{WHOLE}
-use Rattle.task.specs.Reading.{State, noIndex, noTask, begin, refused, accepted, ask, mayStand, byKind, lengthFits, headerTurn, actionTurn, onPreset, presetTurn, caseTurn, closeTurn, onRecord, turnOf, left, readTask}
+use Rattle.task.specs.Reading.{State, noIndex, noTask, begin, refused, accepted, ask, mayStand, byKind, lengthFits, headerTurn, actionTurn, onPreset, presetTurn, caseTurn, closeTurn, kindTurn, onRecord, turnOf, left, readTask}
 use Rattle.task.specs.Verdict.{valueOf}
 use Rattle.task.specs.declared.bounds.Bounds.{Bounds}
 use Rattle.task.specs.declared.instruction.Line.{Line}
@@ -249,7 +249,7 @@ module _ (bytes : List ℕ) (s : State) (small : Small s) where
   close-good next n = ask-good _ _ _ _ (omega arith) (λ h. omega arith)
 
   found-good : (f : Found) → recordAt bytes (s .progress .at) ≡ f → Good (onRecord bytes s f)
-  unfolding onRecord refused
+  unfolding onRecord kindTurn refused
   found-good Missing e = here
   found-good (Record kind start size next) e =
       let r = record-ends bytes (s .progress .at) kind start size next e in

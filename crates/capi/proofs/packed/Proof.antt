@@ -5,8 +5,6 @@ use native.Mathlib.Omega.{arith}
 use Rattle.capi.specs.Packed.{packed}
 use Rattle.capi.proofs.packed.Statement.{statement}
 use Rattle.capi.proofs.packed.Tie as tie
-use Rattle.capi.proofs.packed.Reads as reads
-use Rattle.capi.proofs.packed.Lts as lts
 
 enum-known-verdict : tie.Need-enum-known-verdict
 enum-known-verdict c = search needs

@@ -7,10 +7,6 @@ use Rattle.task.specs.declared.reading.Reading.{Reading}
 use Rattle.capi.proofs.Laws.Place.{place-small}
 use Rattle.capi.proofs.pp_check_task.Statement.{statement}
 use Rattle.capi.proofs.pp_check_task.Tie as tie
-use Rattle.capi.proofs.pp_check_task.Reads as reads
-use Rattle.capi.proofs.pp_check_task.Lts as lts
-use Rattle.capi.proofs.packed.Reads as packed-reads
-use Rattle.task.proofs.reading.read_task.Reads as read-task-reads
 
 read-task-requires : tie.Need-read-task-requires
 read-task-requires c κs = search needs

@@ -20,7 +20,7 @@ use Rattle.task.specs.Instruction.{decodeFor, encode, tripleAt, withTrip
 use Rattle.task.specs.Program.{lineOffset}
 use Rattle.task.specs.Outcome.{turned}
 use Rattle.task.specs.Questions.{WHOLE, KIND, LENGTH, COUNT, BOUNDS, SETS, PRESET, REPEATED, CLOSED}
-use Rattle.task.specs.Reading.{State, ask, refused, mayStand, byKind, lengthFits, headerTurn, actionTurn, onPreset, presetTurn, caseTurn, closeTurn, onRecord, turnOf}
+use Rattle.task.specs.Reading.{State, ask, refused, mayStand, byKind, lengthFits, headerTurn, actionTurn, onPreset, presetTurn, caseTurn, closeTurn, kindTurn, onRecord, turnOf}
 use Rattle.task.specs.declared.bounds.Bounds.{Bounds}
 use Rattle.task.specs.declared.facts.Literals.{Literals}
 use Rattle.task.specs.declared.instruction.Triple.{Triple}
@@ -142,26 +142,27 @@ module _ (bytes : List ℕ) (p : Progress) (body next : ℕ) (o q : List ℕ) wh
     unfolding turned caseTurn
     case-yes first f y = rw f (ask-yes _ _ _ _ (cc) ∙ ask-yes _ _ _ _ few)
 
-module _ (kind size : ℕ) (l : Bool) (e : l ≡ lengthFits kind size) (y : l ≡ true) where
+-- a body in the file, of the length that question 3 asks of its kind
+module _ (kind body size end : ℕ) (there : body + size ≤ end) (fit : lengthFits kind size ≡ true) where
   fits : (t : Bool) → t ≡ lengthFits kind size → t ≡ true
-  fits t f = f ∙ sym e ∙ y
+  fits t f = f ∙ fit
 
-  pub header-size : kind ≡ 1 → size ≡ 6
+  pub header-there : kind ≡ 1 → body + 6 ≤ end
   unfolding lengthFits
-  header-size h = eqb-true size 6 (fits _ (by-header _ _ _ _ _ _ h))
+  header-there h = omega (arith, eqb-true size 6 (fits _ (by-header _ _ _ _ _ _ h)))
 
-  pub preset-size : kind ≡ 3 → size ≡ 5
+  pub preset-there : kind ≡ 3 → body + 5 ≤ end
   unfolding lengthFits
-  preset-size h = eqb-true size 5 (fits _ (by-preset _ _ _ _ _ _ h))
+  preset-there h = omega (arith, eqb-true size 5 (fits _ (by-preset _ _ _ _ _ _ h)))
 
-  pub case-size : kind ≡ 4 → size ≡ 24
+  pub case-there : kind ≡ 4 → body + 24 ≤ end
   unfolding lengthFits
-  case-size h = eqb-true size 24 (fits _ (by-case _ _ _ _ _ _ h))
+  case-there h = omega (arith, eqb-true size 24 (fits _ (by-case _ _ _ _ _ _ h)))
 
--- a record's body of a known size is in the file
+-- a record's body is in the file
 pub body-there : (bytes : List ℕ) (at : ℕ) (f : Found) → f ≡ recordAt bytes at → (kind body size next : ℕ) → f ≡ Record kind body size next
-    → (known : ℕ) → size ≡ known → body + known ≤ length bytes
-body-there bytes at f e kind body size next r known s = omega (arith, record-ends bytes at kind body size next (sym e ∙ r))
+    → body + size ≤ length bytes
+body-there bytes at f e kind body size next r = omega (arith, record-ends bytes at kind body size next (sym e ∙ r))
 
 -- the record that `f` found at the reading's offset
 module _ (bytes : List ℕ) (p : Progress) (o q : List ℕ) (f : Found) (e : f ≡ recordAt bytes (p .at)) where
@@ -187,12 +188,7 @@ module _ (bytes : List ℕ) (p : Progress) (o q : List ℕ) (f : Found) (e : f �
 
         -- past questions 1 to 3 the turn is what the kind asks
         pub kind-turn : l ≡ true → (t : Turn State Reading)
-            → t ≡ byKind kind
-            (headerTurn bytes (record { progress = p; offsets = o; presets = q }) body next)
-            (actionTurn bytes (record { progress = p; offsets = o; presets = q }) body size next)
-            (presetTurn bytes (record { progress = p; offsets = o; presets = q }) body next)
-            (caseTurn bytes (record { progress = p; offsets = o; presets = q }) body next)
-            (closeTurn bytes (record { progress = p; offsets = o; presets = q }) next)
+            → t ≡ kindTurn bytes (record { progress = p; offsets = o; presets = q }) kind body size next
             → t ≡ turnOf bytes (record { progress = p; offsets = o; presets = q })
         unfolding onRecord
         kind-turn h t d = d ∙ ask-yes _ _ _ _ (sym k ∙ h) ∙ ask-yes _ _ _ _ (sym g ∙ y) ∙ on-record

@@ -1,7 +1,7 @@
 -- The reading of a task file, turn by turn. A turn that goes on goes to the next record, which begins after this one, so the bytes left
 -- grow fewer and the loop's law applies: what is read from here on is one turn, and then what is read from there on.
 -- Assumes nothing.
-use Prim.Native.Nat.{ℕ, _+_, _-_, _≤_, _<_}
+use Prim.Native.Nat.{ℕ, _-_, _<_}
 use mathlib.Core.Path.{_≡_, refl, sym, ap, _∙_}
 use mathlib.Core.Bool.{Bool, true, false, cond}
 use mathlib.Core.List.{List}
@@ -16,7 +16,7 @@ use Rattle.records.proofs.Laws.Loop.{unroll}
 use Rattle.records.proofs.Laws.Record.{record-ends}
 use Rattle.task.specs.Outcome.{turned}
 use Rattle.task.specs.Questions.{WHOLE}
-use Rattle.task.specs.Reading.{State, begin, refused, accepted, ask, byKind, headerTurn, actionTurn, onPreset, presetTurn, caseTurn, closeTurn, onRecord, turnOf, left, readTask}
+use Rattle.task.specs.Reading.{State, begin, refused, accepted, ask, byKind, headerTurn, actionTurn, onPreset, presetTurn, caseTurn, closeTurn, kindTurn, onRecord, turnOf, left, readTask}
 use Rattle.task.specs.declared.index.Index.{Index}
 use Rattle.task.specs.declared.instruction.Decoded.{Decoded}
 use Rattle.task.specs.declared.instruction.Decoded.the-variants.{Is, Nothing}
@@ -78,7 +78,7 @@ module _ (bytes : List ℕ) (s : State) where
   close-goes next = ask-goes _ _ _ _ _ (stop-goes next _)
 
   record-goes : (kind body size next : ℕ) → Goes next (onRecord bytes s (Record kind body size next))
-  unfolding onRecord
+  unfolding onRecord kindTurn
   record-goes kind body size next =
       ask-goes _ _ _ _ _
       (ask-goes _ _ _ _ _

@@ -4,9 +4,6 @@ use borrow.Author.Needs.{needs}
 use Rattle.task.specs.Bounds.{boundsAt}
 use Rattle.task.proofs.bounds.bounds_at.Statement.{statement}
 use Rattle.task.proofs.bounds.bounds_at.Tie as tie
-use Rattle.task.proofs.bounds.bounds_at.Reads as reads
-use Rattle.task.proofs.bounds.bounds_at.Lts as lts
-use Rattle.records.proofs.numbers.u16_at.Reads as u16-at-reads
 
 shared-slice-read-t4 : tie.Need-shared-slice-read-t4
 shared-slice-read-t4 c = search needs

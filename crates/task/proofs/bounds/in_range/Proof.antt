@@ -5,9 +5,6 @@ use Rattle.task.specs.Bounds.{inRange}
 use mathlib.Core.Bool.{_&&_}
 use Rattle.task.proofs.bounds.in_range.Statement.{statement}
 use Rattle.task.proofs.bounds.in_range.Tie as tie
-use Rattle.task.proofs.bounds.in_range.Reads as reads
-use Rattle.task.proofs.bounds.in_range.Lts as lts
-use Rattle.task.proofs.bounds.between.Reads as between-reads
 
 cast-between : tie.Need-cast-between
 cast-between c = search needs

@@ -1,4 +1,4 @@
--- `task::bounds::line_count` meets its contract: two bytes multiply to less than a word.
+-- `task::bounds::line_count` meets its contract: the product of two bytes, one of them with 1 added, fits 16 bits.
 -- Assumes nothing.
 use borrow.Author.Needs.{needs}
 use native.Mathlib.Omega.{arith}
@@ -6,8 +6,6 @@ use Rattle.task.specs.Bounds.{lineCount}
 use Rattle.task.proofs.Laws.Bounds.{lines-fit}
 use Rattle.task.proofs.bounds.line_count.Statement.{statement}
 use Rattle.task.proofs.bounds.line_count.Tie as tie
-use Rattle.task.proofs.bounds.line_count.Reads as reads
-use Rattle.task.proofs.bounds.line_count.Lts as lts
 
 cast-result : tie.Need-cast-result
 cast-result c = search needs

@@ -7,9 +7,6 @@ use lib.Dec.{eqb}
 use lib.Bits.{bitAnd}
 use Rattle.task.proofs.facts.consistent.Statement.{statement}
 use Rattle.task.proofs.facts.consistent.Tie as tie
-use Rattle.task.proofs.facts.consistent.Reads as reads
-use Rattle.task.proofs.facts.consistent.Lts as lts
-use Rattle.task.proofs.facts.within.Reads as within-reads
 
 within-requires : tie.Need-within-requires
 within-requires c κs = search needs

@@ -6,9 +6,6 @@ use Rattle.task.specs.Facts.{literalsAt}
 use Rattle.task.proofs.Laws.Facts.{literals-missing}
 use Rattle.task.proofs.facts.literals_at.Statement.{statement}
 use Rattle.task.proofs.facts.literals_at.Tie as tie
-use Rattle.task.proofs.facts.literals_at.Reads as reads
-use Rattle.task.proofs.facts.literals_at.Lts as lts
-use Rattle.records.proofs.numbers.u64_at.Reads as u64-at-reads
 
 returns : tie.Need-returns
 returns c = literals-missing _ _ (omega arith)

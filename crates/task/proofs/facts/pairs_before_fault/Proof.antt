@@ -1,19 +1,12 @@
 -- `task::facts::pairs_before_fault` meets its contract: it is the search for the first pair that fails question 6.
 -- Assumes nothing.
 use Prim.Native.Nat.{_-_}
-use mathlib.Core.Path.{_≡_}
-use mathlib.Core.Bool.{true, false}
 use borrow.Author.Needs.{needs}
-use native.Mathlib.Omega.{arith}
 use Rattle.task.specs.Facts.{pairConsistent, pairsBeforeFault}
 use Rattle.task.proofs.Laws.Facts.{pair-test}
 use Rattle.task.proofs.Laws.First.{Searching, searching, found-yes, found-no, found-none}
 use Rattle.task.proofs.facts.pairs_before_fault.Statement.{statement}
 use Rattle.task.proofs.facts.pairs_before_fault.Tie as tie
-use Rattle.task.proofs.facts.pairs_before_fault.Reads as reads
-use Rattle.task.proofs.facts.pairs_before_fault.Lts as lts
-use Rattle.task.proofs.facts.consistent.Reads as consistent-reads
-use Rattle.task.proofs.facts.literals_at.Reads as literals-at-reads
 
 abbrev Inv-loop : tie.InvT-loop
 Inv-loop bytes at count facts k₀ k = Searching (pairConsistent facts bytes at) count k

@@ -6,8 +6,6 @@ use native.Mathlib.Omega.{arith}
 use Rattle.task.proofs.Laws.Facts.{within-all, within-shift}
 use Rattle.task.proofs.facts.within.Statement.{statement}
 use Rattle.task.proofs.facts.within.Tie as tie
-use Rattle.task.proofs.facts.within.Reads as reads
-use Rattle.task.proofs.facts.within.Lts as lts
 
 returns : tie.Need-returns
 returns c = within-all _ _ (omega arith) (search needs)

@@ -1,14 +1,10 @@
--- `task::index::action_at` meets its contract.
+-- `task::index::action_at` meets its contract: precondition and length are each read where the definition says.
 -- Assumes nothing.
 use borrow.Author.Needs.{needs}
 use Prim.Native.Nat.{_/_}
 use Rattle.task.specs.Index.{actionAt}
 use Rattle.task.proofs.index.action_at.Statement.{statement}
 use Rattle.task.proofs.index.action_at.Tie as tie
-use Rattle.task.proofs.index.action_at.Reads as reads
-use Rattle.task.proofs.index.action_at.Lts as lts
-use Rattle.records.proofs.numbers.u16_at.Reads as u16-at-reads
-use Rattle.task.proofs.index.literals_after.Reads as literals-after-reads
 
 literals-after-requires : tie.Need-literals-after-requires
 literals-after-requires c κs = search needs

@@ -1,13 +1,9 @@
--- `task::index::case_at` meets its contract.
+-- `task::index::case_at` meets its contract: start and goal are each read where the definition says.
 -- Assumes nothing.
 use borrow.Author.Needs.{needs}
 use Rattle.task.specs.Index.{caseAt}
 use Rattle.task.proofs.index.case_at.Statement.{statement}
 use Rattle.task.proofs.index.case_at.Tie as tie
-use Rattle.task.proofs.index.case_at.Reads as reads
-use Rattle.task.proofs.index.case_at.Lts as lts
-use Rattle.task.proofs.index.literals_after.Reads as literals-after-reads
-use Rattle.task.proofs.index.set_after.Reads as set-after-reads
 
 mul-from : tie.Need-mul-from
 mul-from c = search needs

@@ -4,10 +4,6 @@ use borrow.Author.Needs.{needs}
 use Rattle.task.specs.Index.{effectAt}
 use Rattle.task.proofs.index.effect_at.Statement.{statement}
 use Rattle.task.proofs.index.effect_at.Tie as tie
-use Rattle.task.proofs.index.effect_at.Reads as reads
-use Rattle.task.proofs.index.effect_at.Lts as lts
-use Rattle.task.proofs.index.literals_after.Reads as literals-after-reads
-use Rattle.task.proofs.index.set_after.Reads as set-after-reads
 
 mul-from : tie.Need-mul-from
 mul-from c = search needs

@@ -5,9 +5,6 @@ use native.Mathlib.Omega.{arith}
 use Rattle.task.proofs.Laws.Facts.{literals-missing}
 use Rattle.task.proofs.index.literals_after.Statement.{statement}
 use Rattle.task.proofs.index.literals_after.Tie as tie
-use Rattle.task.proofs.index.literals_after.Reads as reads
-use Rattle.task.proofs.index.literals_after.Lts as lts
-use Rattle.task.proofs.facts.literals_at.Reads as literals-at-reads
 
 returns : tie.Need-returns
 returns c = literals-missing _ _ (omega arith)

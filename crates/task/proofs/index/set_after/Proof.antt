@@ -5,9 +5,6 @@ use native.Mathlib.Omega.{arith}
 use Rattle.records.proofs.Laws.Numbers.{u64-missing}
 use Rattle.task.proofs.index.set_after.Statement.{statement}
 use Rattle.task.proofs.index.set_after.Tie as tie
-use Rattle.task.proofs.index.set_after.Reads as reads
-use Rattle.task.proofs.index.set_after.Lts as lts
-use Rattle.records.proofs.numbers.u64_at.Reads as u64-at-reads
 
 returns : tie.Need-returns
 returns c = u64-missing _ _ (omega arith)

@@ -7,9 +7,6 @@ use Rattle.task.specs.Instruction.{allowed}
 use Rattle.task.proofs.Laws.Instruction.{decode-empty, decode-act, decode-goto, decode-call, decode-end, decode-other}
 use Rattle.task.proofs.instruction.decode.Statement.{statement}
 use Rattle.task.proofs.instruction.decode.Tie as tie
-use Rattle.task.proofs.instruction.decode.Reads as reads
-use Rattle.task.proofs.instruction.decode.Lts as lts
-use Rattle.task.proofs.instruction.kept.Reads as kept-reads
 
 kept-requires : tie.Need-kept-requires
 kept-requires c κs = search needs

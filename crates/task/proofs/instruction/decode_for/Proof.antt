@@ -6,9 +6,6 @@ use mathlib.Core.Path.{_∙_}
 use Rattle.task.proofs.Laws.Instruction.{keep-yes, keep-no}
 use Rattle.task.proofs.instruction.decode_for.Statement.{statement}
 use Rattle.task.proofs.instruction.decode_for.Tie as tie
-use Rattle.task.proofs.instruction.decode_for.Reads as reads
-use Rattle.task.proofs.instruction.decode_for.Lts as lts
-use Rattle.task.proofs.instruction.decode.Reads as decode-reads
 
 decode-requires : tie.Need-decode-requires
 decode-requires c κs = search needs

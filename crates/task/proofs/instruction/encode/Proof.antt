@@ -4,8 +4,6 @@ use borrow.Author.Needs.{needs}
 use Rattle.task.specs.Instruction.{encode}
 use Rattle.task.proofs.instruction.encode.Statement.{statement}
 use Rattle.task.proofs.instruction.encode.Tie as tie
-use Rattle.task.proofs.instruction.encode.Reads as reads
-use Rattle.task.proofs.instruction.encode.Lts as lts
 
 enum-told : tie.Need-enum-told
 enum-told c = search needs

@@ -3,8 +3,6 @@
 use Rattle.task.proofs.Laws.Instruction.{kept-both, kept-not}
 use Rattle.task.proofs.instruction.kept.Statement.{statement}
 use Rattle.task.proofs.instruction.kept.Tie as tie
-use Rattle.task.proofs.instruction.kept.Reads as reads
-use Rattle.task.proofs.instruction.kept.Lts as lts
 
 returns : tie.Need-returns
 returns c = kept-both _ _ _ (c .if1 .taken)

@@ -5,8 +5,6 @@ use mathlib.Core.Path.{sym}
 use lib.Seq.{set-out}
 use Rattle.task.proofs.instruction.put.Statement.{statement}
 use Rattle.task.proofs.instruction.put.Tie as tie
-use Rattle.task.proofs.instruction.put.Reads as reads
-use Rattle.task.proofs.instruction.put.Lts as lts
 
 slice-write-bytes : tie.Need-slice-write-bytes
 slice-write-bytes c = search needs

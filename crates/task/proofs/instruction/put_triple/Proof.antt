@@ -5,9 +5,6 @@ use native.Mathlib.Omega.{arith}
 use Rattle.task.proofs.Laws.Instruction.{put-missing, put-three}
 use Rattle.task.proofs.instruction.put_triple.Statement.{statement}
 use Rattle.task.proofs.instruction.put_triple.Tie as tie
-use Rattle.task.proofs.instruction.put_triple.Reads as reads
-use Rattle.task.proofs.instruction.put_triple.Lts as lts
-use Rattle.task.proofs.instruction.put.Reads as put-reads
 
 returns : tie.Need-returns
 returns c = put-missing _ _ _ (omega arith)

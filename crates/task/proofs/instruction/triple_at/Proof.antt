@@ -6,9 +6,6 @@ use Rattle.task.specs.Instruction.{tripleAt}
 use Rattle.task.proofs.Laws.Instruction.{triple-missing}
 use Rattle.task.proofs.instruction.triple_at.Statement.{statement}
 use Rattle.task.proofs.instruction.triple_at.Tie as tie
-use Rattle.task.proofs.instruction.triple_at.Reads as reads
-use Rattle.task.proofs.instruction.triple_at.Lts as lts
-use Rattle.records.proofs.numbers.byte_at.Reads as byte-at-reads
 
 returns : tie.Need-returns
 returns c = triple-missing _ _ (omega arith)

@@ -12,12 +12,6 @@ use Rattle.task.proofs.Laws.First.{Searching, searching, found-yes, fou
 use Rattle.task.proofs.Laws.Program.{line-next, line-again, line-test}
 use Rattle.task.proofs.program.allowed_lines.Statement.{statement}
 use Rattle.task.proofs.program.allowed_lines.Tie as tie
-use Rattle.task.proofs.program.allowed_lines.Reads as reads
-use Rattle.task.proofs.program.allowed_lines.Lts as lts
-use Rattle.task.proofs.bounds.line_count.Reads as line-count-reads
-use Rattle.task.proofs.instruction.decode.Reads as decode-reads
-use Rattle.task.proofs.instruction.triple_at.Reads as triple-at-reads
-use Rattle.task.proofs.program.is_instruction.Reads as is-instruction-reads
 
 abbrev Inv-loop : tie.InvT-loop
 Inv-loop index program bounds last count k₀ line₀ k line = Searching (lineAllowed index program) count k × (line ≡ k % (last + 1))

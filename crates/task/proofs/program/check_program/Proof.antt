@@ -1,15 +1,9 @@
 -- `task::program::check_program` meets its contract, question by question.
 -- Assumes nothing.
 use borrow.Author.Needs.{needs}
-use native.Mathlib.Omega.{arith}
 use Rattle.task.proofs.Laws.Program.{size-no, lines-no, presets-no, program-good}
 use Rattle.task.proofs.program.check_program.Statement.{statement}
 use Rattle.task.proofs.program.check_program.Tie as tie
-use Rattle.task.proofs.program.check_program.Reads as reads
-use Rattle.task.proofs.program.check_program.Lts as lts
-use Rattle.task.proofs.bounds.line_count.Reads as line-count-reads
-use Rattle.task.proofs.program.allowed_lines.Reads as allowed-lines-reads
-use Rattle.task.proofs.program.held_presets.Reads as held-presets-reads
 
 line-count-requires : tie.Need-line-count-requires
 line-count-requires c κs = search needs

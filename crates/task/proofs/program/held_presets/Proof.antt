@@ -7,9 +7,6 @@ use Rattle.task.specs.Program.{presetHeld}
 use Rattle.task.proofs.Laws.First.{Searching, searching, found-yes, found-no, found-none}
 use Rattle.task.proofs.program.held_presets.Statement.{statement}
 use Rattle.task.proofs.program.held_presets.Tie as tie
-use Rattle.task.proofs.program.held_presets.Reads as reads
-use Rattle.task.proofs.program.held_presets.Lts as lts
-use Rattle.task.proofs.program.preset_held.Reads as preset-held-reads
 
 abbrev Inv-loop : tie.InvT-loop
 Inv-loop count presets program k₀ k = Searching (presetHeld presets program) count k

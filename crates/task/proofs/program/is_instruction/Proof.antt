@@ -4,8 +4,6 @@ use borrow.Author.Needs.{needs}
 use Rattle.task.specs.Program.{isInstruction}
 use Rattle.task.proofs.program.is_instruction.Statement.{statement}
 use Rattle.task.proofs.program.is_instruction.Tie as tie
-use Rattle.task.proofs.program.is_instruction.Reads as reads
-use Rattle.task.proofs.program.is_instruction.Lts as lts
 
 enum-told : tie.Need-enum-told
 enum-told c = search needs

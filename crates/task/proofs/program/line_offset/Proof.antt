@@ -6,8 +6,6 @@ use Rattle.task.specs.Program.{lineOffset}
 use Rattle.task.proofs.Laws.Bounds.{lines-fit, line-fits, offset-fits}
 use Rattle.task.proofs.program.line_offset.Statement.{statement}
 use Rattle.task.proofs.program.line_offset.Tie as tie
-use Rattle.task.proofs.program.line_offset.Reads as reads
-use Rattle.task.proofs.program.line_offset.Lts as lts
 
 cast-result : tie.Need-cast-result
 cast-result c = search needs

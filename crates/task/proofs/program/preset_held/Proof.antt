@@ -1,13 +1,9 @@
--- `task::program::preset_held` meets its contract.
+-- `task::program::preset_held` meets its contract: both lines are read where the definition says, and compared.
 -- Assumes nothing.
 use borrow.Author.Needs.{needs}
 use Rattle.task.proofs.Laws.Program.{preset-test}
 use Rattle.task.proofs.program.preset_held.Statement.{statement}
 use Rattle.task.proofs.program.preset_held.Tie as tie
-use Rattle.task.proofs.program.preset_held.Reads as reads
-use Rattle.task.proofs.program.preset_held.Lts as lts
-use Rattle.task.proofs.instruction.triple_at.Reads as triple-at-reads
-use Rattle.task.proofs.program.same_triple.Reads as same-triple-reads
 
 mul-triple-at : tie.Need-mul-triple-at
 mul-triple-at c = search needs

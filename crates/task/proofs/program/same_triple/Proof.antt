@@ -4,8 +4,6 @@ use borrow.Author.Needs.{needs}
 use Rattle.task.specs.Program.{sameTriple}
 use Rattle.task.proofs.program.same_triple.Statement.{statement}
 use Rattle.task.proofs.program.same_triple.Tie as tie
-use Rattle.task.proofs.program.same_triple.Reads as reads
-use Rattle.task.proofs.program.same_triple.Lts as lts
 
 returns : tie.Need-returns
 unfolding sameTriple

@@ -3,8 +3,6 @@
 use borrow.Author.Tests.{eq-eqb, ne-eqb}
 use Rattle.task.proofs.reading.first_case.Statement.{statement}
 use Rattle.task.proofs.reading.first_case.Tie as tie
-use Rattle.task.proofs.reading.first_case.Reads as reads
-use Rattle.task.proofs.reading.first_case.Lts as lts
 
 returns : tie.Need-returns
 returns c = cc (eq-eqb _ _ (c .if1 .taken))

@@ -5,8 +5,6 @@ use native.Mathlib.Omega.{arith}
 use Rattle.task.proofs.Laws.Reading.{by-header, by-action, by-preset, by-case, by-close}
 use Rattle.task.proofs.reading.length_fits.Statement.{statement}
 use Rattle.task.proofs.reading.length_fits.Tie as tie
-use Rattle.task.proofs.reading.length_fits.Reads as reads
-use Rattle.task.proofs.reading.length_fits.Lts as lts
 
 returns : tie.Need-returns
 unfolding lengthFits

@@ -4,8 +4,6 @@ use borrow.Author.Needs.{needs}
 use Rattle.task.specs.Reading.{mayStand}
 use Rattle.task.proofs.reading.may_stand.Statement.{statement}
 use Rattle.task.proofs.reading.may_stand.Tie as tie
-use Rattle.task.proofs.reading.may_stand.Reads as reads
-use Rattle.task.proofs.reading.may_stand.Lts as lts
 
 enum-told : tie.Need-enum-told
 enum-told c = search needs

@@ -4,8 +4,6 @@ use mathlib.Core.Path.{refl}
 use Rattle.task.specs.Reading.{noIndex}
 use Rattle.task.proofs.reading.no_index.Statement.{statement}
 use Rattle.task.proofs.reading.no_index.Tie as tie
-use Rattle.task.proofs.reading.no_index.Reads as reads
-use Rattle.task.proofs.reading.no_index.Lts as lts
 
 returns : tie.Need-returns
 unfolding noIndex

@@ -5,9 +5,6 @@ use native.Mathlib.Omega.{arith}
 use Rattle.task.proofs.Laws.Reading.{action-full, action-no, action-yes}
 use Rattle.task.proofs.reading.read_action.Statement.{statement}
 use Rattle.task.proofs.reading.read_action.Tie as tie
-use Rattle.task.proofs.reading.read_action.Reads as reads
-use Rattle.task.proofs.reading.read_action.Lts as lts
-use Rattle.task.proofs.facts.pairs_before_fault.Reads as pairs-before-fault-reads
 
 cast-number : tie.Need-cast-number
 cast-number c = search needs

@@ -5,13 +5,6 @@ use native.Mathlib.Omega.{arith}
 use Rattle.task.proofs.Laws.Reading.{case-full, case-no, case-yes}
 use Rattle.task.proofs.reading.read_case.Statement.{statement}
 use Rattle.task.proofs.reading.read_case.Tie as tie
-use Rattle.task.proofs.reading.read_case.Reads as reads
-use Rattle.task.proofs.reading.read_case.Lts as lts
-use Rattle.records.proofs.numbers.u64_at.Reads as u64-at-reads
-use Rattle.task.proofs.facts.consistent.Reads as consistent-reads
-use Rattle.task.proofs.facts.literals_at.Reads as literals-at-reads
-use Rattle.task.proofs.facts.within.Reads as within-reads
-use Rattle.task.proofs.reading.first_case.Reads as first-case-reads
 
 returns : tie.Need-returns
 returns c = λ o q. case-full _ _ _ _ o q (c .if1 .taken)

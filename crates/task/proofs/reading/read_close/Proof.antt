@@ -3,8 +3,6 @@
 use Rattle.task.proofs.Laws.Reading.{close-no, close-yes}
 use Rattle.task.proofs.reading.read_close.Statement.{statement}
 use Rattle.task.proofs.reading.read_close.Tie as tie
-use Rattle.task.proofs.reading.read_close.Reads as reads
-use Rattle.task.proofs.reading.read_close.Lts as lts
 
 returns : tie.Need-returns
 returns c = λ o q. close-yes _ _ _ o q (c .if1 .taken)

@@ -4,10 +4,6 @@ use borrow.Author.Needs.{needs}
 use Rattle.task.proofs.Laws.Reading.{header-yes, header-no}
 use Rattle.task.proofs.reading.read_header.Statement.{statement}
 use Rattle.task.proofs.reading.read_header.Tie as tie
-use Rattle.task.proofs.reading.read_header.Reads as reads
-use Rattle.task.proofs.reading.read_header.Lts as lts
-use Rattle.task.proofs.bounds.bounds_at.Reads as bounds-at-reads
-use Rattle.task.proofs.bounds.in_range.Reads as in-range-reads
 
 bounds-at-requires : tie.Need-bounds-at-requires
 bounds-at-requires c κs = search needs

@@ -6,14 +6,6 @@ use Rattle.task.specs.Instruction.{withTriple}
 use Rattle.task.proofs.Laws.Reading.{preset-no, preset-again, preset-yes}
 use Rattle.task.proofs.reading.read_preset.Statement.{statement}
 use Rattle.task.proofs.reading.read_preset.Tie as tie
-use Rattle.task.proofs.reading.read_preset.Reads as reads
-use Rattle.task.proofs.reading.read_preset.Lts as lts
-use Rattle.records.proofs.numbers.byte_at.Reads as byte-at-reads
-use Rattle.task.proofs.instruction.encode.Reads as encode-reads
-use Rattle.task.proofs.instruction.decode_for.Reads as decode-for-reads
-use Rattle.task.proofs.instruction.put_triple.Reads as put-triple-reads
-use Rattle.task.proofs.instruction.triple_at.Reads as triple-at-reads
-use Rattle.task.proofs.program.line_offset.Reads as line-offset-reads
 
 byte-at-requires : tie.Need-byte-at-requires
 byte-at-requires c κs = search needs

@@ -8,10 +8,6 @@ use Rattle.task.specs.Reading.{noTask, begin, accepted, readTask}
 use Rattle.task.proofs.Laws.Turns.{from, from-begin, from-next, from-refused, from-closed, next-falls}
 use Rattle.task.proofs.reading.read_task.Statement.{statement}
 use Rattle.task.proofs.reading.read_task.Tie as tie
-use Rattle.task.proofs.reading.read_task.Reads as reads
-use Rattle.task.proofs.reading.read_task.Lts as lts
-use Rattle.task.proofs.reading.read_record.Reads as read-record-reads
-use Rattle.task.proofs.reading.refused.Reads as refused-reads
 
 abbrev Inv-loop : tie.InvT-loop
 Inv-loop task offsets₀ presets₀ progress₀ offsets presets progress = (from task (record { progress = progress; offsets = offsets; presets = presets }) ≡ readTask task) × (length presets ≡ 768)

@@ -4,9 +4,6 @@ use borrow.Author.Needs.{needs}
 use Rattle.task.specs.Reading.{noTask, refused}
 use Rattle.task.proofs.reading.refused.Statement.{statement}
 use Rattle.task.proofs.reading.refused.Tie as tie
-use Rattle.task.proofs.reading.refused.Reads as reads
-use Rattle.task.proofs.reading.refused.Lts as lts
-use Rattle.task.proofs.reading.no_index.Reads as no-index-reads
 
 no-index-requires : tie.Need-no-index-requires
 no-index-requires c κs = search needs
