@@ -30,7 +30,7 @@ add-u16-at : tie.Need-add-u16-at
 add-u16-at c = search needs
 
 u16-at-requires : tie.Need-u16-at-requires
-u16-at-requires c κs = search needs
+u16-at-requires c κs = tt
 
 returns : tie.Need-returns
 unfolding boundsAt

@@ -10,28 +10,28 @@ cast-between : tie.Need-cast-between
 cast-between c = search needs
 
 between-requires : tie.Need-between-requires
-between-requires c κs = search needs
+between-requires c κs = tt
 
 cast-between-2 : tie.Need-cast-between-2
 cast-between-2 c = search needs
 
 between-requires-2 : tie.Need-between-requires-2
-between-requires-2 c κs = search needs
+between-requires-2 c κs = tt
 
 cast-between-3 : tie.Need-cast-between-3
 cast-between-3 c = search needs
 
 between-requires-3 : tie.Need-between-requires-3
-between-requires-3 c κs = search needs
+between-requires-3 c κs = tt
 
 cast-between-4 : tie.Need-cast-between-4
 cast-between-4 c = search needs
 
 between-requires-4 : tie.Need-between-requires-4
-between-requires-4 c κs = search needs
+between-requires-4 c κs = tt
 
 between-requires-5 : tie.Need-between-requires-5
-between-requires-5 c κs = search needs
+between-requires-5 c κs = tt
 
 returns : tie.Need-returns
 unfolding inRange

@@ -9,10 +9,10 @@ use Rattle.task.proofs.facts.consistent.Statement.{statement}
 use Rattle.task.proofs.facts.consistent.Tie as tie
 
 within-requires : tie.Need-within-requires
-within-requires c κs = search needs
+within-requires c κs = tt
 
 within-requires-2 : tie.Need-within-requires-2
-within-requires-2 c κs = search needs
+within-requires-2 c κs = tt
 
 returns : tie.Need-returns
 unfolding consistent

@@ -11,13 +11,13 @@ returns : tie.Need-returns
 returns c = literals-missing _ _ (omega arith)
 
 u64-at-requires : tie.Need-u64-at-requires
-u64-at-requires c κs = search needs
+u64-at-requires c κs = tt
 
 add-u64-at : tie.Need-add-u64-at
 add-u64-at c = search needs
 
 u64-at-requires-2 : tie.Need-u64-at-requires-2
-u64-at-requires-2 c κs = search needs
+u64-at-requires-2 c κs = tt
 
 returns-2 : tie.Need-returns-2
 unfolding literalsAt

@@ -24,10 +24,10 @@ add-literals-at : tie.Need-add-literals-at Inv-loop μ-loop
 add-literals-at c = search needs
 
 literals-at-requires : tie.Need-literals-at-requires Inv-loop μ-loop
-literals-at-requires c κs = search needs
+literals-at-requires c κs = tt
 
 consistent-requires : tie.Need-consistent-requires Inv-loop μ-loop
-consistent-requires c κs = search needs
+consistent-requires c κs = tt
 
 add-k : tie.Need-add-k Inv-loop μ-loop
 add-k c = search needs

@@ -10,7 +10,7 @@ literals-after-requires : tie.Need-literals-after-requires
 literals-after-requires c κs = search needs
 
 u16-at-requires : tie.Need-u16-at-requires
-u16-at-requires c κs = search needs
+u16-at-requires c κs = tt
 
 returns : tie.Need-returns
 unfolding actionAt

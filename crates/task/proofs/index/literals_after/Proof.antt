@@ -13,7 +13,7 @@ add-literals-at : tie.Need-add-literals-at
 add-literals-at c = search needs
 
 literals-at-requires : tie.Need-literals-at-requires
-literals-at-requires c κs = search needs
+literals-at-requires c κs = tt
 
 returns-2 : tie.Need-returns-2
 returns-2 c = search needs

@@ -13,7 +13,7 @@ add-u64-at : tie.Need-add-u64-at
 add-u64-at c = search needs
 
 u64-at-requires : tie.Need-u64-at-requires
-u64-at-requires c κs = search needs
+u64-at-requires c κs = tt
 
 returns-2 : tie.Need-returns-2
 returns-2 c = search needs

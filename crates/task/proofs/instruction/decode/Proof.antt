@@ -9,19 +9,19 @@ use Rattle.task.proofs.instruction.decode.Statement.{statement}
 use Rattle.task.proofs.instruction.decode.Tie as tie
 
 kept-requires : tie.Need-kept-requires
-kept-requires c κs = search needs
+kept-requires c κs = tt
 
 kept-requires-2 : tie.Need-kept-requires-2
-kept-requires-2 c κs = search needs
+kept-requires-2 c κs = tt
 
 kept-requires-3 : tie.Need-kept-requires-3
-kept-requires-3 c κs = search needs
+kept-requires-3 c κs = tt
 
 kept-requires-4 : tie.Need-kept-requires-4
-kept-requires-4 c κs = search needs
+kept-requires-4 c κs = tt
 
 kept-requires-5 : tie.Need-kept-requires-5
-kept-requires-5 c κs = search needs
+kept-requires-5 c κs = tt
 
 returns : tie.Need-returns
 unfolding allowed

@@ -8,7 +8,7 @@ use Rattle.task.proofs.instruction.decode_for.Statement.{statement}
 use Rattle.task.proofs.instruction.decode_for.Tie as tie
 
 decode-requires : tie.Need-decode-requires
-decode-requires c κs = search needs
+decode-requires c κs = tt
 
 returns : tie.Need-returns
 unfolding decodeFor

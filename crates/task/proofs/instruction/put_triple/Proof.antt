@@ -10,19 +10,19 @@ returns : tie.Need-returns
 returns c = put-missing _ _ _ (omega arith)
 
 put-requires : tie.Need-put-requires
-put-requires c κs = search needs
+put-requires c κs = tt
 
 add-put : tie.Need-add-put
 add-put c = search needs
 
 put-requires-2 : tie.Need-put-requires-2
-put-requires-2 c κs = search needs
+put-requires-2 c κs = tt
 
 add-put-2 : tie.Need-add-put-2
 add-put-2 c = search needs
 
 put-requires-3 : tie.Need-put-requires-3
-put-requires-3 c κs = search needs
+put-requires-3 c κs = tt
 
 same-length : tie.Need-same-length
 same-length c = search needs

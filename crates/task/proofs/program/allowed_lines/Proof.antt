@@ -20,7 +20,7 @@ abbrev μ-loop : tie.MeasureT-loop
 μ-loop index program bounds last count k₀ line₀ k line = count - k
 
 line-count-requires : tie.Need-line-count-requires Inv-loop μ-loop
-line-count-requires c κs = search needs
+line-count-requires c κs = tt
 
 cast-count : tie.Need-cast-count Inv-loop μ-loop
 cast-count c = search needs
@@ -32,13 +32,13 @@ mul-triple-at : tie.Need-mul-triple-at Inv-loop μ-loop
 mul-triple-at c = search needs
 
 triple-at-requires : tie.Need-triple-at-requires Inv-loop μ-loop
-triple-at-requires c κs = search needs
+triple-at-requires c κs = tt
 
 decode-requires : tie.Need-decode-requires Inv-loop μ-loop
-decode-requires c κs = search needs
+decode-requires c κs = tt
 
 is-instruction-requires : tie.Need-is-instruction-requires Inv-loop μ-loop
-is-instruction-requires c κs = search needs
+is-instruction-requires c κs = tt
 
 add-k : tie.Need-add-k Inv-loop μ-loop
 add-k c = search needs

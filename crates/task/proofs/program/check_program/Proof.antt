@@ -6,7 +6,7 @@ use Rattle.task.proofs.program.check_program.Statement.{statement}
 use Rattle.task.proofs.program.check_program.Tie as tie
 
 line-count-requires : tie.Need-line-count-requires
-line-count-requires c κs = search needs
+line-count-requires c κs = tt
 
 cast-count : tie.Need-cast-count
 cast-count c = search needs

@@ -9,16 +9,16 @@ mul-triple-at : tie.Need-mul-triple-at
 mul-triple-at c = search needs
 
 triple-at-requires : tie.Need-triple-at-requires
-triple-at-requires c κs = search needs
+triple-at-requires c κs = tt
 
 mul-triple-at-2 : tie.Need-mul-triple-at-2
 mul-triple-at-2 c = search needs
 
 triple-at-requires-2 : tie.Need-triple-at-requires-2
-triple-at-requires-2 c κs = search needs
+triple-at-requires-2 c κs = tt
 
 same-triple-requires : tie.Need-same-triple-requires
-same-triple-requires c κs = search needs
+same-triple-requires c κs = tt
 
 returns : tie.Need-returns
 returns c = preset-test _ _ _ _ _ _ (c .before .before .before .triple-at .ensures) (c .before .before .triple-at2 .ensures) (c .same-triple .ensures)

@@ -21,7 +21,7 @@ read-case-requires : tie.Need-read-case-requires
 read-case-requires c κs = case-there _ _ _ _ (c .before .before .before .pre .0) (c .before .before .before .pre .1) (c .match .keys4)
 
 read-close-requires : tie.Need-read-close-requires
-read-close-requires c κs = search needs
+read-close-requires c κs = tt
 
 returns : tie.Need-returns
 unfolding kindTurn

@@ -10,25 +10,25 @@ returns : tie.Need-returns
 returns c = λ o q. case-full _ _ _ _ o q (c .if1 .taken)
 
 u64-at-requires : tie.Need-u64-at-requires
-u64-at-requires c κs = search needs
+u64-at-requires c κs = tt
 
 within-requires : tie.Need-within-requires
-within-requires c κs = search needs
+within-requires c κs = tt
 
 add-literals-at : tie.Need-add-literals-at
 add-literals-at c = search needs
 
 literals-at-requires : tie.Need-literals-at-requires
-literals-at-requires c κs = search needs
+literals-at-requires c κs = tt
 
 consistent-requires : tie.Need-consistent-requires
-consistent-requires c κs = search needs
+consistent-requires c κs = tt
 
 add-t17 : tie.Need-add-t17
 add-t17 c = search needs
 
 first-case-requires : tie.Need-first-case-requires
-first-case-requires c κs = search needs
+first-case-requires c κs = tt
 
 returns-2 : tie.Need-returns-2
 returns-2 c = λ o q. case-yes _ _ _ _ o q (omega arith) _ _ _ _ (c .before .before .before .before .before .before .u64-at .ensures) (c .before .before .before .before .literals-at .ensures) (c .before .before .before .before .before .within .ensures) (c .before .before .before .consistent .ensures) _ (c .first-case .ensures) (c .before .before .if2 .taken)

@@ -9,7 +9,7 @@ bounds-at-requires : tie.Need-bounds-at-requires
 bounds-at-requires c κs = search needs
 
 in-range-requires : tie.Need-in-range-requires
-in-range-requires c κs = search needs
+in-range-requires c κs = tt
 
 returns : tie.Need-returns
 returns c = λ o q. header-yes _ _ _ _ o q _ _ (c .before .before .bounds-at .ensures) (c .before .in-range .ensures) (c .if1 .taken)

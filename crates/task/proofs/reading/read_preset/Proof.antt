@@ -8,22 +8,22 @@ use Rattle.task.proofs.reading.read_preset.Statement.{statement}
 use Rattle.task.proofs.reading.read_preset.Tie as tie
 
 byte-at-requires : tie.Need-byte-at-requires
-byte-at-requires c κs = search needs
+byte-at-requires c κs = tt
 
 add-byte-at : tie.Need-add-byte-at
 add-byte-at c = search needs
 
 byte-at-requires-2 : tie.Need-byte-at-requires-2
-byte-at-requires-2 c κs = search needs
+byte-at-requires-2 c κs = tt
 
 add-triple-at : tie.Need-add-triple-at
 add-triple-at c = search needs
 
 triple-at-requires : tie.Need-triple-at-requires
-triple-at-requires c κs = search needs
+triple-at-requires c κs = tt
 
 decode-for-requires : tie.Need-decode-for-requires
-decode-for-requires c κs = search needs
+decode-for-requires c κs = tt
 
 enum-known-decoded : tie.Need-enum-known-decoded
 enum-known-decoded c = search needs
@@ -35,10 +35,10 @@ returns : tie.Need-returns
 returns c = λ o. preset-no _ _ _ _ o _ _ _ _ _ (c .before .before .before .before .before .byte-at .ensures) (c .before .before .before .before .byte-at2 .ensures) (c .before .before .before .triple-at .ensures) (c .before .before .decode-for .ensures) (c .enum-told .given .1)
 
 line-offset-requires : tie.Need-line-offset-requires
-line-offset-requires c κs = search needs
+line-offset-requires c κs = tt
 
 byte-at-requires-3 : tie.Need-byte-at-requires-3
-byte-at-requires-3 c κs = search needs
+byte-at-requires-3 c κs = tt
 
 same-length : tie.Need-same-length
 same-length c = search needs
@@ -47,10 +47,10 @@ returns-2 : tie.Need-returns-2
 returns-2 c = λ o. preset-again _ _ _ _ o _ _ _ _ _ (c .before .before .before .before .before .before .before .before .before .before .byte-at .ensures) (c .before .before .before .before .before .before .before .before .before .byte-at2 .ensures) (c .before .before .before .before .before .before .before .before .triple-at .ensures) (c .before .before .before .before .before .before .before .decode-for .ensures) _ (c .before .before .before .before .before .decoded .given .1) _ _ (c .before .before .before .line-offset .ensures) (c .before .byte-at3 .ensures) (c .if1 .taken)
 
 encode-requires : tie.Need-encode-requires
-encode-requires c κs = search needs
+encode-requires c κs = tt
 
 put-triple-requires : tie.Need-put-triple-requires
-put-triple-requires c κs = search needs
+put-triple-requires c κs = tt
 
 same-length-2 : tie.Need-same-length-2
 same-length-2 c = search needs

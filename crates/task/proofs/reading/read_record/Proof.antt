@@ -8,7 +8,7 @@ use Rattle.task.proofs.reading.read_record.Statement.{statement}
 use Rattle.task.proofs.reading.read_record.Tie as tie
 
 record-at-requires : tie.Need-record-at-requires
-record-at-requires c κs = search needs
+record-at-requires c κs = tt
 
 enum-known-found : tie.Need-enum-known-found
 enum-known-found c = search needs
@@ -20,13 +20,13 @@ returns : tie.Need-returns
 returns c = record-no _ _ _ _ _ (c .before .before .record-at .ensures) (c .enum-told .given .1)
 
 may-stand-requires : tie.Need-may-stand-requires
-may-stand-requires c κs = search needs
+may-stand-requires c κs = tt
 
 returns-2 : tie.Need-returns-2
 returns-2 c = kind-no _ _ _ _ _ (c .before .before .before .before .before .record-at .ensures) _ _ _ _ (c .before .before .before .found .given .1) _ (c .before .may-stand .ensures) (not-true _ (c .if1 .taken))
 
 length-fits-requires : tie.Need-length-fits-requires
-length-fits-requires c κs = search needs
+length-fits-requires c κs = tt
 
 returns-3 : tie.Need-returns-3
 returns-3 c = length-no _ _ _ _ _ (c .before .before .before .before .before .before .before .record-at .ensures) _ _ _ _ (c .before .before .before .before .before .found .given .1) _ (c .before .before .before .may-stand .ensures) (not-false _ (c .before .before .if1 .left)) _ (c .before .length-fits .ensures) (not-true _ (c .if2 .taken))

@@ -16,7 +16,7 @@ abbrev μ-loop : tie.MeasureT-loop
 μ-loop task offsets₀ presets₀ progress₀ offsets presets progress = length task - progress .at
 
 no-index-requires : tie.Need-no-index-requires Inv-loop μ-loop
-no-index-requires c κs = search needs
+no-index-requires c κs = tt
 
 loop-holds : tie.Need-loop-holds Inv-loop μ-loop
 unfolding begin noTask
@@ -26,7 +26,7 @@ slice-aggregate-read-record : tie.Need-slice-aggregate-read-record Inv-loop μ-l
 slice-aggregate-read-record c = search needs
 
 read-record-requires : tie.Need-read-record-requires Inv-loop μ-loop
-read-record-requires c κs = search needs
+read-record-requires c κs = tt
 
 enum-known-outcome : tie.Need-enum-known-outcome Inv-loop μ-loop
 enum-known-outcome c = search needs
@@ -41,7 +41,7 @@ enum-known-outcome-2 : tie.Need-enum-known-outcome-2 Inv-loop μ-loop
 enum-known-outcome-2 c = search needs
 
 refused-requires : tie.Need-refused-requires Inv-loop μ-loop
-refused-requires c κs = search needs
+refused-requires c κs = tt
 
 returns : tie.Need-returns Inv-loop μ-loop
 returns c = c .refused .ensures ∙ from-refused _ _ _ _ _ _ (c .before .before .before .before .before .read-record .ensures) (c .before .before .before .before .before .before .before .before .loop .inv .0) _ _ (c .before .before .outcome2 .given .1)

@@ -6,7 +6,7 @@ use Rattle.task.proofs.reading.refused.Statement.{statement}
 use Rattle.task.proofs.reading.refused.Tie as tie
 
 no-index-requires : tie.Need-no-index-requires
-no-index-requires c κs = search needs
+no-index-requires c κs = tt
 
 returns : tie.Need-returns
 unfolding refused noTask
