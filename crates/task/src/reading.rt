@@ -1,4 +1,5 @@
 // A task file to its verdict and its index: its records one after the other, each asked questions 1 to 9.
+// Kind 1 has the bounds, 2 an action, 3 a preset line, 4 a case; 5 closes the file.
 use crate::bounds::Bounds;
 use crate::bounds::bounds_at;
 use crate::bounds::in_range;
@@ -39,7 +40,7 @@ ghost use lib.ListN.{length};
 ghost use Rattle.task.specs.Reading.{mayStand, lengthFits, headerTurn, actionTurn, presetTurn, caseTurn, closeTurn, kindTurn, turnOf, noIndex, refused, readTask};
 ghost use Rattle.task.specs.Outcome.{turned};
 
-// Where in the file the last record stood.
+// The section of the file that the last record belongs to.
 pub enum Section {
     Start,
     Header,
