@@ -1,50 +1,50 @@
 -- The questions about a task file and a program, by their numbers.
 use Prim.Native.Nat.{ℕ}
 
--- are the record's four head bytes and its body all there?
+-- is the record all there, its four head bytes and its body?
 abbrev pub WHOLE : ℕ
 WHOLE = 1
 
--- may this kind stand here?
+-- can a record of this kind come here?
 abbrev pub KIND : ℕ
 KIND = 2
 
--- is the length this kind's?
+-- is its body as long as its kind asks?
 abbrev pub LENGTH : ℕ
 LENGTH = 3
 
--- no more than 64 actions and 32 cases so far?
+-- with this record, are the actions at most 64 and the cases at most 32?
 abbrev pub COUNT : ℕ
 COUNT = 4
 
--- are the bounds in range?
+-- is every bound in its range?
 abbrev pub BOUNDS : ℕ
 BOUNDS = 5
 
--- do all sets use bits below F, and no pair name a fact twice?
+-- are all facts below F, and is none on both sides of a pair?
 abbrev pub SETS : ℕ
 SETS = 6
 
--- is the preset procedure below b, its instruction allowed on its line and not empty?
+-- does the preset name a procedure below b and an instruction, not empty, that may stand on its line?
 abbrev pub PRESET : ℕ
 PRESET = 7
 
--- was this line not preset before?
+-- is the line preset for the first time?
 abbrev pub REPEATED : ℕ
 REPEATED = 8
 
--- does the file end after the closing record?
+-- is the closing record the last thing in the file?
 abbrev pub CLOSED : ℕ
 CLOSED = 9
 
--- is the program exactly as long as its lines?
+-- has the program as many bytes as its lines take, no more and no fewer?
 abbrev pub PROGRAM-LENGTH : ℕ
 PROGRAM-LENGTH = 25
 
--- is every line's instruction allowed there, or empty?
+-- may each line's instruction stand there, or is it empty?
 abbrev pub PROGRAM-LINES : ℕ
 PROGRAM-LINES = 26
 
--- does every preset line hold its preset?
+-- does each preset line hold what was preset?
 abbrev pub PROGRAM-PRESETS : ℕ
 PROGRAM-PRESETS = 27

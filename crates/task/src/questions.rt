@@ -1,26 +1,26 @@
 // The questions about a task file and a program, by their numbers.
 
-// Are the record's four head bytes and its body all there?
+// Is the record all there, its four head bytes and its body?
 pub const WHOLE: u8 = 1;
-// May this kind stand here?
+// Can a record of this kind come here?
 pub const KIND: u8 = 2;
-// Is the length this kind's?
+// Is its body as long as its kind asks?
 pub const LENGTH: u8 = 3;
-// No more than 64 actions and 32 cases so far?
+// With this record, are the actions at most 64 and the cases at most 32?
 pub const COUNT: u8 = 4;
-// Are the bounds in range?
+// Is every bound in its range?
 pub const BOUNDS: u8 = 5;
-// Do all sets use bits below F, and no pair name a fact twice?
+// Are all facts below F, and is none on both sides of a pair?
 pub const SETS: u8 = 6;
-// Is the preset procedure below b, its instruction allowed on its line and not empty?
+// Does the preset name a procedure below b and an instruction, not empty, that may stand on its line?
 pub const PRESET: u8 = 7;
-// Was this line not preset before?
+// Is the line preset for the first time?
 pub const REPEATED: u8 = 8;
-// Does the file end after the closing record?
+// Is the closing record the last thing in the file?
 pub const CLOSED: u8 = 9;
-// Is the program exactly as long as its lines?
+// Has the program as many bytes as its lines take, no more and no fewer?
 pub const PROGRAM_LENGTH: u8 = 25;
-// Is every line's instruction allowed there, or empty?
+// May each line's instruction stand there, or is it empty?
 pub const PROGRAM_LINES: u8 = 26;
-// Does every preset line hold its preset?
+// Does each preset line hold what was preset?
 pub const PROGRAM_PRESETS: u8 = 27;
