@@ -108,7 +108,8 @@ module _ (bytes : List ℕ) (p : Progress) (body next : ℕ) (o q : List ℕ) wh
     unfolding turned onPreset
     preset-no h = rw h at on-preset
 
-    module _ (w : Instruction) (a : d ≡ Is w) (offset byte : ℕ) (f : offset ≡ lineOffset (p .index .bounds) (record { 0 = procedure }) (record { 0 = line })) (g : byte ≡ byteAt q offset) where
+    module _ (w : Instruction) (a : d ≡ Is w) (offset byte : ℕ)
+        (f : offset ≡ lineOffset (p .index .bounds) (record { 0 = procedure }) (record { 0 = line })) (g : byte ≡ byteAt q offset) where
       here : byte ≡ byteAt q (lineOffset (p .index .bounds) (record { 0 = byteAt bytes body }) (record { 0 = byteAt bytes (body + 1) }))
       here = cc
 

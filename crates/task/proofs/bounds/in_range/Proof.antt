@@ -35,7 +35,13 @@ between-requires-5 c κs = tt
 
 returns : tie.Need-returns
 unfolding inRange
-returns c = λ i. c .before .before .before .before .before .before .before .between .ensures i && c .before .before .before .before .before .between2 .ensures i && c .before .before .before .between3 .ensures i && c .before .between4 .ensures i && c .between5 .ensures i
+returns c =
+    let at-between4 = c .before in
+    let at-between3 = at-between4 .before .before in
+    let at-between2 = at-between3 .before .before in
+    let at-between = at-between2 .before .before in
+    λ i. at-between .between .ensures i && at-between2 .between2 .ensures i && at-between3 .between3 .ensures i && at-between4
+    .between4 .ensures i && c .between5 .ensures i
 
 pub in-range-spec : {M : Type 1} → statement M
 in-range-spec =

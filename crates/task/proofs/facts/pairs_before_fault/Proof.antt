@@ -36,11 +36,23 @@ loop-less : tie.Need-loop-less Inv-loop μ-loop
 loop-less c = search needs
 
 loop-again : tie.Need-loop-again Inv-loop μ-loop
-loop-again c = found-yes _ _ _ (c .before .before .before .before .loop .inv) (c .before .before .before .loop-test .taken) (pair-test _ _ _ _ _ _ _ (c .before .before .literals-at .ensures) (c .before .consistent .ensures) (c .if1 .taken))
+loop-again c =
+    let at-consistent = c .before in
+    let at-literals-at = at-consistent .before in
+    let at-loop-test = at-literals-at .before in
+    let at-loop = at-loop-test .before in
+    found-yes _ _ _ (at-loop .loop .inv) (at-loop-test .loop-test .taken)
+    (pair-test _ _ _ _ _ _ _ (at-literals-at .literals-at .ensures) (at-consistent .consistent .ensures) (c .if1 .taken))
 
 returns : tie.Need-returns Inv-loop μ-loop
 unfolding pairsBeforeFault
-returns c = found-no _ _ _ (c .before .before .before .before .loop .inv) (c .before .before .before .loop-test .taken) (pair-test _ _ _ _ _ _ _ (c .before .before .literals-at .ensures) (c .before .consistent .ensures) (c .if1 .left))
+returns c =
+    let at-consistent = c .before in
+    let at-literals-at = at-consistent .before in
+    let at-loop-test = at-literals-at .before in
+    let at-loop = at-loop-test .before in
+    found-no _ _ _ (at-loop .loop .inv) (at-loop-test .loop-test .taken)
+    (pair-test _ _ _ _ _ _ _ (at-literals-at .literals-at .ensures) (at-consistent .consistent .ensures) (c .if1 .left))
 
 returns-2 : tie.Need-returns-2 Inv-loop μ-loop
 unfolding pairsBeforeFault

@@ -50,16 +50,45 @@ loop-less : tie.Need-loop-less Inv-loop μ-loop
 loop-less c = search needs
 
 loop-again : tie.Need-loop-again Inv-loop μ-loop
-loop-again c = (found-yes _ _ _ (c .before .before .before .before .before .before .loop .inv .0) (c .before .before .before .before .before .loop-test .taken) (line-test _ _ _ _ _ _ _ _ (c .before .before .before .before .before .before .loop .inv .1) (c .before .before .before .before .triple-at .ensures) (c .before .before .before .decode .ensures) (c .before .before .is-instruction .ensures) (c .before .if1 .taken)), line-next _ _ _ (c .before .before .before .before .before .before .loop .inv .1) (c .if2 .taken))
+loop-again c =
+    let at-if1 = c .before in
+    let at-is-instruction = at-if1 .before in
+    let at-decode = at-is-instruction .before in
+    let at-triple-at = at-decode .before in
+    let at-loop-test = at-triple-at .before in
+    let at-loop = at-loop-test .before in (
+      found-yes _ _ _ (at-loop .loop .inv .0) (at-loop-test .loop-test .taken)
+          (line-test _ _ _ _ _ _ _ _ (at-loop .loop .inv .1) (at-triple-at .triple-at .ensures) (at-decode .decode .ensures) (at-is-instruction .is-instruction .ensures) (at-if1 .if1 .taken)),
+      line-next _ _ _ (at-loop .loop .inv .1) (c .if2 .taken),
+    )
 
 loop-less-2 : tie.Need-loop-less-2 Inv-loop μ-loop
 loop-less-2 c = search needs
 
 loop-again-2 : tie.Need-loop-again-2 Inv-loop μ-loop
-loop-again-2 c = (found-yes _ _ _ (c .before .before .before .before .before .before .loop .inv .0) (c .before .before .before .before .before .loop-test .taken) (line-test _ _ _ _ _ _ _ _ (c .before .before .before .before .before .before .loop .inv .1) (c .before .before .before .before .triple-at .ensures) (c .before .before .before .decode .ensures) (c .before .before .is-instruction .ensures) (c .before .if1 .taken)), line-again _ _ _ (c .before .before .before .before .before .before .loop .inv .1) (c .if2 .left))
+loop-again-2 c =
+    let at-if1 = c .before in
+    let at-is-instruction = at-if1 .before in
+    let at-decode = at-is-instruction .before in
+    let at-triple-at = at-decode .before in
+    let at-loop-test = at-triple-at .before in
+    let at-loop = at-loop-test .before in (
+      found-yes _ _ _ (at-loop .loop .inv .0) (at-loop-test .loop-test .taken)
+          (line-test _ _ _ _ _ _ _ _ (at-loop .loop .inv .1) (at-triple-at .triple-at .ensures) (at-decode .decode .ensures) (at-is-instruction .is-instruction .ensures) (at-if1 .if1 .taken)),
+      line-again _ _ _ (at-loop .loop .inv .1) (c .if2 .left),
+    )
 
 returns : tie.Need-returns Inv-loop μ-loop
-returns c = found-no _ _ _ (c .before .before .before .before .before .loop .inv .0) (c .before .before .before .before .loop-test .taken) (line-test _ _ _ _ _ _ _ _ (c .before .before .before .before .before .loop .inv .1) (c .before .before .before .triple-at .ensures) (c .before .before .decode .ensures) (c .before .is-instruction .ensures) (c .if1 .left)) ∙ ap (firstNo _) (c .before .before .before .before .before .before .line-count .ensures)
+returns c =
+    let at-is-instruction = c .before in
+    let at-decode = at-is-instruction .before in
+    let at-triple-at = at-decode .before in
+    let at-loop-test = at-triple-at .before in
+    let at-loop = at-loop-test .before in
+    let at-line-count = at-loop .before in
+    found-no _ _ _ (at-loop .loop .inv .0) (at-loop-test .loop-test .taken) (line-test _ _ _ _ _ _ _ _ (at-loop .loop .inv .1)
+    (at-triple-at .triple-at .ensures) (at-decode .decode .ensures) (at-is-instruction .is-instruction .ensures) (c .if1 .left))
+    ∙ ap (firstNo _) (at-line-count .line-count .ensures)
 
 returns-2 : tie.Need-returns-2 Inv-loop μ-loop
 returns-2 c = found-none _ _ _ (c .before .loop .inv .0) (c .loop-test .left) ∙ ap (firstNo _) (c .before .before .line-count .ensures)

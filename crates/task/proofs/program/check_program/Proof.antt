@@ -24,7 +24,12 @@ mul-t12 : tie.Need-mul-t12
 mul-t12 c = search needs
 
 returns-2 : tie.Need-returns-2
-returns-2 c = lines-no _ _ _ _ (c .before .before .before .line-count .ensures) (c .before .before .if1 .left) _ (c .before .allowed-lines .ensures) (c .if2 .taken)
+returns-2 c =
+    let at-allowed-lines = c .before in
+    let at-if1 = at-allowed-lines .before in
+    let at-line-count = at-if1 .before in
+    lines-no _ _ _ _ (at-line-count .line-count .ensures) (at-if1 .if1 .left) _ (at-allowed-lines .allowed-lines .ensures)
+    (c .if2 .taken)
 
 held-presets-requires : tie.Need-held-presets-requires
 held-presets-requires c κs = search needs
@@ -33,10 +38,24 @@ mul-t13 : tie.Need-mul-t13
 mul-t13 c = search needs
 
 returns-3 : tie.Need-returns-3
-returns-3 c = presets-no _ _ _ _ (c .before .before .before .before .before .line-count .ensures) (c .before .before .before .before .if1 .left) _ (c .before .before .before .allowed-lines .ensures) (c .before .before .if2 .left) _ (c .before .held-presets .ensures) (c .if3 .taken)
+returns-3 c =
+    let at-held-presets = c .before in
+    let at-if2 = at-held-presets .before in
+    let at-allowed-lines = at-if2 .before in
+    let at-if1 = at-allowed-lines .before in
+    let at-line-count = at-if1 .before in
+    presets-no _ _ _ _ (at-line-count .line-count .ensures) (at-if1 .if1 .left) _ (at-allowed-lines .allowed-lines .ensures)
+    (at-if2 .if2 .left) _ (at-held-presets .held-presets .ensures) (c .if3 .taken)
 
 returns-4 : tie.Need-returns-4
-returns-4 c = program-good _ _ _ _ (c .before .before .before .before .before .line-count .ensures) (c .before .before .before .before .if1 .left) _ (c .before .before .before .allowed-lines .ensures) (c .before .before .if2 .left) _ (c .before .held-presets .ensures) (c .if3 .left)
+returns-4 c =
+    let at-held-presets = c .before in
+    let at-if2 = at-held-presets .before in
+    let at-allowed-lines = at-if2 .before in
+    let at-if1 = at-allowed-lines .before in
+    let at-line-count = at-if1 .before in
+    program-good _ _ _ _ (at-line-count .line-count .ensures) (at-if1 .if1 .left) _ (at-allowed-lines .allowed-lines .ensures)
+    (at-if2 .if2 .left) _ (at-held-presets .held-presets .ensures) (c .if3 .left)
 
 pub check-program-spec : {M : Type 1} → statement M
 check-program-spec =

@@ -27,10 +27,20 @@ loop-less : tie.Need-loop-less Inv-loop μ-loop
 loop-less c = search needs
 
 loop-again : tie.Need-loop-again Inv-loop μ-loop
-loop-again c = found-yes _ _ _ (c .before .before .before .loop .inv) (c .before .before .loop-test .taken) (sym (c .before .preset-held .ensures) ∙ c .if1 .taken)
+loop-again c =
+    let at-preset-held = c .before in
+    let at-loop-test = at-preset-held .before in
+    let at-loop = at-loop-test .before in
+    found-yes _ _ _ (at-loop .loop .inv) (at-loop-test .loop-test .taken)
+    (sym (at-preset-held .preset-held .ensures) ∙ c .if1 .taken)
 
 returns : tie.Need-returns Inv-loop μ-loop
-returns c = found-no _ _ _ (c .before .before .before .loop .inv) (c .before .before .loop-test .taken) (sym (c .before .preset-held .ensures) ∙ c .if1 .left)
+returns c =
+    let at-preset-held = c .before in
+    let at-loop-test = at-preset-held .before in
+    let at-loop = at-loop-test .before in
+    found-no _ _ _ (at-loop .loop .inv) (at-loop-test .loop-test .taken)
+    (sym (at-preset-held .preset-held .ensures) ∙ c .if1 .left)
 
 returns-2 : tie.Need-returns-2 Inv-loop μ-loop
 returns-2 c = found-none _ _ _ (c .before .loop .inv) (c .loop-test .left)

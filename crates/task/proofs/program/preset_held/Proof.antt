@@ -21,7 +21,10 @@ same-triple-requires : tie.Need-same-triple-requires
 same-triple-requires c κs = tt
 
 returns : tie.Need-returns
-returns c = preset-test _ _ _ _ _ _ (c .before .before .before .triple-at .ensures) (c .before .before .triple-at2 .ensures) (c .same-triple .ensures)
+returns c =
+    let at-triple-at2 = c .before .before in
+    let at-triple-at = at-triple-at2 .before in
+    preset-test _ _ _ _ _ _ (at-triple-at .triple-at .ensures) (at-triple-at2 .triple-at2 .ensures) (c .same-triple .ensures)
 
 pub preset-held-spec : {M : Type 1} → statement M
 preset-held-spec =

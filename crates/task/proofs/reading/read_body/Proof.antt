@@ -15,7 +15,10 @@ read-action-requires : tie.Need-read-action-requires
 read-action-requires c κs = search needs
 
 read-preset-requires : tie.Need-read-preset-requires
-read-preset-requires c κs = preset-there _ _ _ _ (c .before .before .before .before .pre .0) (c .before .before .before .before .pre .1) (c .before .match .keys3)
+read-preset-requires c κs =
+    let at-match = c .before in
+    let at-pre = at-match .before .before .before in
+    preset-there _ _ _ _ (at-pre .pre .0) (at-pre .pre .1) (at-match .match .keys3)
 
 read-case-requires : tie.Need-read-case-requires
 read-case-requires c κs = case-there _ _ _ _ (c .before .before .before .pre .0) (c .before .before .before .pre .1) (c .match .keys4)

@@ -31,10 +31,23 @@ first-case-requires : tie.Need-first-case-requires
 first-case-requires c κs = tt
 
 returns-2 : tie.Need-returns-2
-returns-2 c = λ o q. case-yes _ _ _ _ o q (omega arith) _ _ _ _ (c .before .before .before .before .before .before .u64-at .ensures) (c .before .before .before .before .literals-at .ensures) (c .before .before .before .before .before .within .ensures) (c .before .before .before .consistent .ensures) _ (c .first-case .ensures) (c .before .before .if2 .taken)
+returns-2 c =
+    let at-if2 = c .before .before in
+    let at-consistent = at-if2 .before in
+    let at-literals-at = at-consistent .before in
+    let at-within = at-literals-at .before in
+    let at-u64-at = at-within .before in
+    λ o q. case-yes _ _ _ _ o q (omega arith) _ _ _ _ (at-u64-at .u64-at .ensures) (at-literals-at .literals-at .ensures)
+    (at-within .within .ensures) (at-consistent .consistent .ensures) _ (c .first-case .ensures) (at-if2 .if2 .taken)
 
 returns-3 : tie.Need-returns-3
-returns-3 c = λ o q. case-no _ _ _ _ o q (omega arith) _ _ _ _ (c .before .before .before .before .u64-at .ensures) (c .before .before .literals-at .ensures) (c .before .before .before .within .ensures) (c .before .consistent .ensures) (c .if2 .left)
+returns-3 c =
+    let at-consistent = c .before in
+    let at-literals-at = at-consistent .before in
+    let at-within = at-literals-at .before in
+    let at-u64-at = at-within .before in
+    λ o q. case-no _ _ _ _ o q (omega arith) _ _ _ _ (at-u64-at .u64-at .ensures) (at-literals-at .literals-at .ensures)
+    (at-within .within .ensures) (at-consistent .consistent .ensures) (c .if2 .left)
 
 pub read-case-spec : {M : Type 1} → statement M
 read-case-spec =

@@ -32,7 +32,13 @@ enum-told : tie.Need-enum-told
 enum-told c = search needs
 
 returns : tie.Need-returns
-returns c = λ o. preset-no _ _ _ _ o _ _ _ _ _ (c .before .before .before .before .before .byte-at .ensures) (c .before .before .before .before .byte-at2 .ensures) (c .before .before .before .triple-at .ensures) (c .before .before .decode-for .ensures) (c .enum-told .given .1)
+returns c =
+    let at-decode-for = c .before .before in
+    let at-triple-at = at-decode-for .before in
+    let at-byte-at2 = at-triple-at .before in
+    let at-byte-at = at-byte-at2 .before in
+    λ o. preset-no _ _ _ _ o _ _ _ _ _ (at-byte-at .byte-at .ensures) (at-byte-at2 .byte-at2 .ensures)
+    (at-triple-at .triple-at .ensures) (at-decode-for .decode-for .ensures) (c .enum-told .given .1)
 
 line-offset-requires : tie.Need-line-offset-requires
 line-offset-requires c κs = tt
@@ -44,7 +50,17 @@ same-length : tie.Need-same-length
 same-length c = search needs
 
 returns-2 : tie.Need-returns-2
-returns-2 c = λ o. preset-again _ _ _ _ o _ _ _ _ _ (c .before .before .before .before .before .before .before .before .before .before .byte-at .ensures) (c .before .before .before .before .before .before .before .before .before .byte-at2 .ensures) (c .before .before .before .before .before .before .before .before .triple-at .ensures) (c .before .before .before .before .before .before .before .decode-for .ensures) _ (c .before .before .before .before .before .decoded .given .1) _ _ (c .before .before .before .line-offset .ensures) (c .before .byte-at3 .ensures) (c .if1 .taken)
+returns-2 c =
+    let at-byte-at3 = c .before in
+    let at-line-offset = at-byte-at3 .before .before in
+    let at-decoded = at-line-offset .before .before in
+    let at-decode-for = at-decoded .before .before in
+    let at-triple-at = at-decode-for .before in
+    let at-byte-at2 = at-triple-at .before in
+    let at-byte-at = at-byte-at2 .before in
+    λ o. preset-again _ _ _ _ o _ _ _ _ _ (at-byte-at .byte-at .ensures) (at-byte-at2 .byte-at2 .ensures)
+    (at-triple-at .triple-at .ensures) (at-decode-for .decode-for .ensures) _ (at-decoded .decoded .given .1) _ _
+    (at-line-offset .line-offset .ensures) (at-byte-at3 .byte-at3 .ensures) (c .if1 .taken)
 
 encode-requires : tie.Need-encode-requires
 encode-requires c κs = tt
@@ -56,7 +72,21 @@ same-length-2 : tie.Need-same-length-2
 same-length-2 c = search needs
 
 returns-3 : tie.Need-returns-3
-returns-3 c = λ o. preset-yes _ _ _ _ o _ _ _ _ _ (c .before .before .before .before .before .before .before .before .before .before .before .before .before .before .before .byte-at .ensures) (c .before .before .before .before .before .before .before .before .before .before .before .before .before .before .byte-at2 .ensures) (c .before .before .before .before .before .before .before .before .before .before .before .before .before .triple-at .ensures) (c .before .before .before .before .before .before .before .before .before .before .before .before .decode-for .ensures) _ (c .before .before .before .before .before .before .before .before .before .before .decoded .given .1) _ _ (c .before .before .before .before .before .before .before .before .line-offset .ensures) (c .before .before .before .before .before .before .byte-at3 .ensures) _ (c .before .before .put-triple .ensures ∙ ap (withTriple _ _) (c .before .before .before .encode .ensures)) (c .before .before .before .before .before .if1 .left)
+returns-3 c =
+    let at-put-triple = c .before .before in
+    let at-encode = at-put-triple .before in
+    let at-if1 = at-encode .before .before in
+    let at-byte-at3 = at-if1 .before in
+    let at-line-offset = at-byte-at3 .before .before in
+    let at-decoded = at-line-offset .before .before in
+    let at-decode-for = at-decoded .before .before in
+    let at-triple-at = at-decode-for .before in
+    let at-byte-at2 = at-triple-at .before in
+    let at-byte-at = at-byte-at2 .before in
+    λ o. preset-yes _ _ _ _ o _ _ _ _ _ (at-byte-at .byte-at .ensures) (at-byte-at2 .byte-at2 .ensures)
+    (at-triple-at .triple-at .ensures) (at-decode-for .decode-for .ensures) _ (at-decoded .decoded .given .1) _ _
+    (at-line-offset .line-offset .ensures) (at-byte-at3 .byte-at3 .ensures) _
+    (at-put-triple .put-triple .ensures ∙ ap (withTriple _ _) (at-encode .encode .ensures)) (at-if1 .if1 .left)
 
 pub read-preset-spec : {M : Type 1} → statement M
 read-preset-spec =

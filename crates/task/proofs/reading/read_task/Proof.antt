@@ -10,7 +10,8 @@ use Rattle.task.proofs.reading.read_task.Statement.{statement}
 use Rattle.task.proofs.reading.read_task.Tie as tie
 
 abbrev Inv-loop : tie.InvT-loop
-Inv-loop task offsets₀ presets₀ progress₀ offsets presets progress = (from task (record { progress = progress; offsets = offsets; presets = presets }) ≡ readTask task) × (length presets ≡ 768)
+Inv-loop task offsets₀ presets₀ progress₀ offsets presets progress =
+    (from task (record { progress = progress; offsets = offsets; presets = presets }) ≡ readTask task) × (length presets ≡ 768)
 
 abbrev μ-loop : tie.MeasureT-loop
 μ-loop task offsets₀ presets₀ progress₀ offsets presets progress = length task - progress .at
@@ -35,7 +36,13 @@ loop-less : tie.Need-loop-less Inv-loop μ-loop
 loop-less c = next-falls _ _ _ _ _ _ (c .before .before .before .before .read-record .ensures) _ (c .before .outcome .given .1)
 
 loop-again : tie.Need-loop-again Inv-loop μ-loop
-loop-again c = (from-next _ _ _ _ _ _ (c .before .before .before .before .read-record .ensures) (c .before .before .before .before .before .before .before .loop .inv .0) _ (c .before .outcome .given .1), c .before .before .before .before .read-record .kept .1 .1 .1 .0 ∙ c .before .before .before .before .before .before .before .loop .inv .1)
+loop-again c =
+    let at-outcome = c .before in
+    let at-read-record = at-outcome .before .before .before in
+    let at-loop = at-read-record .before .before .before in (
+      from-next _ _ _ _ _ _ (at-read-record .read-record .ensures) (at-loop .loop .inv .0) _ (at-outcome .outcome .given .1),
+      at-read-record .read-record .kept .1 .1 .1 .0 ∙ at-loop .loop .inv .1,
+    )
 
 enum-known-outcome-2 : tie.Need-enum-known-outcome-2 Inv-loop μ-loop
 enum-known-outcome-2 c = search needs
@@ -44,14 +51,23 @@ refused-requires : tie.Need-refused-requires Inv-loop μ-loop
 refused-requires c κs = tt
 
 returns : tie.Need-returns Inv-loop μ-loop
-returns c = c .refused .ensures ∙ from-refused _ _ _ _ _ _ (c .before .before .before .before .before .read-record .ensures) (c .before .before .before .before .before .before .before .before .loop .inv .0) _ _ (c .before .before .outcome2 .given .1)
+returns c =
+    let at-outcome2 = c .before .before in
+    let at-read-record = at-outcome2 .before .before .before in
+    let at-loop = at-read-record .before .before .before in
+    c .refused .ensures ∙ from-refused _ _ _ _ _ _ (at-read-record .read-record .ensures) (at-loop .loop .inv .0) _ _
+    (at-outcome2 .outcome2 .given .1)
 
 enum-told : tie.Need-enum-told Inv-loop μ-loop
 enum-told c = search needs
 
 returns-2 : tie.Need-returns-2 Inv-loop μ-loop
 unfolding accepted
-returns-2 c = from-closed _ _ _ _ _ _ (c .before .before .before .before .read-record .ensures) (c .before .before .before .before .before .before .before .loop .inv .0) (c .before .enum-told .given .1)
+returns-2 c =
+    let at-enum-told = c .before in
+    let at-read-record = at-enum-told .before .before .before in
+    let at-loop = at-read-record .before .before .before in
+    from-closed _ _ _ _ _ _ (at-read-record .read-record .ensures) (at-loop .loop .inv .0) (at-enum-told .enum-told .given .1)
 
 pub read-task-spec : {M : Type 1} → statement M
 read-task-spec =
