@@ -26,10 +26,14 @@ eightAt bytes at =
     + 2 ^ 48 * byteAt bytes (at + 6)
     + 2 ^ 56 * byteAt bytes (at + 7)
 
+-- the value of so many bytes at an offset, or 0 where they are not all there
+unfoldable pub ifThere : ℕ → List ℕ → ℕ → ℕ → ℕ
+ifThere width bytes at value = cond (leb (at + width) (length bytes)) value 0
+
 -- the number of 2 bytes at an offset
 unfoldable pub u16At : List ℕ → ℕ → ℕ
-u16At bytes at = cond (leb (at + 2) (length bytes)) (twoAt bytes at) 0
+u16At bytes at = ifThere 2 bytes at (twoAt bytes at)
 
 -- the number of 8 bytes at an offset
 unfoldable pub u64At : List ℕ → ℕ → ℕ
-u64At bytes at = cond (leb (at + 8) (length bytes)) (eightAt bytes at) 0
+u64At bytes at = ifThere 8 bytes at (eightAt bytes at)
