@@ -26,7 +26,7 @@ eightAt bytes at =
     + 2 ^ 48 * byteAt bytes (at + 6)
     + 2 ^ 56 * byteAt bytes (at + 7)
 
--- the value of so many bytes at an offset, or 0 where they are not all there
+-- a value where so many bytes are there at an offset, else 0
 unfoldable pub ifThere : ℕ → List ℕ → ℕ → ℕ → ℕ
 ifThere width bytes at value = cond (leb (at + width) (length bytes)) value 0
 

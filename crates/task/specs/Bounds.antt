@@ -1,5 +1,5 @@
--- A task's bounds: facts F (1 to 64), procedures b (1 to 8), last line n (1 to 31), stack bound m (1 to 16), one byte each, then
--- step bound S (2 bytes, 1 to 4,096). Question 5 asks whether they are in range.
+-- A task's bounds: how many facts (F), procedures (b), the last line (n) and the most frames (m) in a byte each, and the most steps (S)
+-- in two. Question 5 asks whether each is in its range.
 use Prim.Native.Nat.{ℕ, _+_, _*_}
 use mathlib.Core.List.{List}
 use mathlib.Core.Bool.{Bool, _&&_}
@@ -18,7 +18,7 @@ boundsAt bytes at =
       steps = u16At bytes (at + 4);
     }
 
--- a number from `low` to `high`
+-- whether a number is from `low` to `high`
 abbrev pub between : ℕ → ℕ → ℕ → Bool
 between low x high = leb low x && leb x high
 

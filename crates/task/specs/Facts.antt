@@ -1,5 +1,5 @@
--- Fact sets and literals. A fact set is a number of 8 bytes, bit f for fact f. A pair of fact sets states literals: the facts of the
--- first are to be true, those of the second false. Question 6 asks whether all sets use bits below F and no pair names a fact twice.
+-- Fact sets and literals. A fact set is a number of 8 bytes in which bit f says whether fact f is in it. A pair of them states literals:
+-- the first has the facts that are to be true, the second those that are to be false. Question 6 is about the sets and pairs of a task.
 use Prim.Native.Nat.{ℕ, _+_, _*_, _^_}
 use mathlib.Core.List.{List}
 use mathlib.Core.Bool.{Bool, _&&_}
@@ -13,11 +13,11 @@ use Rattle.task.specs.declared.facts.Literals.{Literals}
 unfoldable pub literalsAt : List ℕ → ℕ → Literals
 literalsAt bytes at = record { positive = u64At bytes at; negative = u64At bytes (at + 8) }
 
--- a set uses bits below `facts` alone
+-- whether a set has facts below `facts` alone
 unfoldable pub within : ℕ → ℕ → Bool
 within facts set = ltb set (2 ^ facts)
 
--- question 6 on one pair: both sets use bits below `facts`, and no fact is in both
+-- question 6 on one pair: both sets have facts below `facts` alone, and no fact is in both
 unfoldable pub consistent : ℕ → Literals → Bool
 consistent facts l = within facts (l .positive) && within facts (l .negative) && eqb (bitAnd (l .positive) (l .negative)) 0
 

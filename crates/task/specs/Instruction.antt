@@ -19,8 +19,7 @@ unfoldable pub keep : Bool → Decoded → Decoded
 keep true d = d
 keep false d = Nothing
 
--- the instruction that three bytes spell: op 0 empty, 1 act, 2 goto, 3 call, 4 end; none for another op, or for a byte other than
--- zero where zero is named
+-- the instruction that three bytes spell, whatever the line. There is none for an op above 4, nor where p or q has to be 0 and is not
 unfoldable pub spelled : Triple → Decoded
 spelled w =
     cond (eqb (w .op) 0) (keep (eqb (w .p) 0 && eqb (w .q) 0) (Is Empty))
@@ -30,8 +29,8 @@ spelled w =
     (cond (eqb (w .op) 4) (keep (eqb (w .p) 0 && eqb (w .q) 0) (Is End))
     Nothing))))
 
--- whether an instruction is allowed on a line of a task with these bounds and so many actions: act, goto and call stand on lines
--- 0 to n - 1, end on lines 1 to n, empty on any line 0 to n; operands name an action, a line 0 to n, a fact below F, a procedure below b
+-- whether an instruction is allowed on a line of a task with these bounds and so many actions: only empty and end may stand on the
+-- last line, an end not on line 0, nothing above n; and each operand is in its range
 unfoldable pub allowed : Bounds → ℕ → Line → Instruction → Bool
 allowed b actions line Empty = leb (line .0) (b .last)
 allowed b actions line (Act action) = ltb (line .0) (b .last) && ltb action actions

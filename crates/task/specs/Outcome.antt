@@ -8,7 +8,7 @@ use Rattle.task.specs.declared.reading.Outcome.{Outcome}
 use Rattle.task.specs.declared.reading.Outcome.the-variants.{Next, Refused, Closed}
 use Rattle.task.specs.declared.reading.Reading.{Reading}
 
--- the turn that an outcome says, given the index before the record and the two arrays after it
+-- the turn that an outcome stands for, given the index before the record and the two arrays after it
 unfoldable pub turned : Index → Outcome → List ℕ → List ℕ → Turn State Reading
 turned index (Next progress) offsets presets = go (record { progress = progress; offsets = offsets; presets = presets })
 turned index (Refused question place) offsets presets = stop (refused question place)

@@ -32,7 +32,7 @@ isInstruction Nothing = false
 unfoldable pub lineAllowed : Index → List ℕ → ℕ → Bool
 lineAllowed i program k = isInstruction (decode (i .bounds) (i .actions) (record { 0 = k % (i .bounds .last + 1) }) (tripleAt program (3 * k)))
 
--- two instructions of three bytes are the same
+-- whether two triples are the same
 unfoldable pub sameTriple : Triple → Triple → Bool
 sameTriple v w = eqb (v .op) (w .op) && eqb (v .p) (w .p) && eqb (v .q) (w .q)
 

@@ -1,4 +1,4 @@
--- A task file to its verdict and its index. The records are read one after the other, each asked questions 1 to 9 in their order; the
+-- A task file to its verdict and what it says. The records are read one after the other, each asked questions 1 to 9 in their order; the
 -- first no ends the reading, with the record's offset as the place (for 9 the offset after the closing record).
 use Prim.Native.Nat.{ℕ, _+_, _-_, _/_, _%_}
 use mathlib.Core.List.{List}
@@ -27,10 +27,11 @@ use Rattle.task.specs.declared.reading.Section.{Section}
 use Rattle.task.specs.declared.reading.Section.the-variants.{Start, Header, Actions, Presets, Cases}
 use Rattle.task.specs.declared.verdict.Verdict.the-variants.{Accepted, Refused}
 
--- no task: nothing is bound, counted or preset
+-- the index of no task: all zeros
 unfoldable pub noIndex : Index
 noIndex = record { bounds = record { facts = 0; procedures = 0; last = 0; stack = 0; steps = 0 }; actions = 0; cases = 0; first = 0 }
 
+-- no task: that index, and arrays of zeros
 unfoldable pub noTask : Task
 noTask = record { index = noIndex; offsets = replicate 64 0; presets = replicate 768 0 }
 
@@ -59,7 +60,7 @@ unfoldable pub ask : Bool → ℕ → ℕ → Turn State Reading → Turn State 
 ask true question place rest = rest
 ask false question place rest = stop (refused question place)
 
--- question 2: first kind 1, then kind 2, then 2, 3 and 4, the kind never falling, and 5 after a 4
+-- question 2: kind 1 comes first, then 2; after a 2 comes 2, 3 or 4; after a 3, 3 or 4; after a 4, 4 or 5
 unfoldable pub mayStand : Section → ℕ → Bool
 mayStand Start kind = eqb kind 1
 mayStand Header kind = eqb kind 2
@@ -67,7 +68,7 @@ mayStand Actions kind = between 2 kind 4
 mayStand Presets kind = between 3 kind 4
 mayStand Cases kind = between 4 kind 5
 
--- what belongs to kind 1, 2, 3 and 4, and the last to any other kind, of which question 2 lets only 5 pass
+-- one of five, by kind: 1 header, 2 action, 3 preset, 4 case, and close for any other (question 2 lets only 5 come so far)
 unfoldable pub byKind : {A : Type 0} → ℕ → A → A → A → A → A → A
 byKind kind header action preset case close =
     cond (eqb kind 1) header (cond (eqb kind 2) action (cond (eqb kind 3) preset (cond (eqb kind 4) case close)))

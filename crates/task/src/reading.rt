@@ -1,4 +1,4 @@
-// A task file to its verdict and its index: its records one after the other, each asked questions 1 to 9.
+// A task file to its verdict and what it says: its records one after the other, each asked questions 1 to 9.
 // Kind 1 has the bounds, 2 an action, 3 a preset line, 4 a case; 5 closes the file.
 use crate::bounds::Bounds;
 use crate::bounds::bounds_at;

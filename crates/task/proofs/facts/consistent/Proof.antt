@@ -1,6 +1,5 @@
 -- `task::facts::consistent` meets its contract: it is the conjunction of the three tests.
 -- Assumes nothing.
-use borrow.Author.Needs.{needs}
 use Rattle.task.specs.Facts.{consistent}
 use mathlib.Core.Bool.{_&&_}
 use lib.Dec.{eqb}

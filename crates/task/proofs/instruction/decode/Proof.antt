@@ -1,6 +1,5 @@
 -- `task::instruction::decode` meets its contract, op by op.
 -- Assumes nothing.
-use borrow.Author.Needs.{needs}
 use native.Mathlib.Omega.{arith}
 use mathlib.Core.Path.{_∙_}
 use Rattle.task.specs.Instruction.{allowed}

@@ -1,6 +1,5 @@
 -- `task::instruction::decode_for` meets its contract: the test is the definition's.
 -- Assumes nothing.
-use borrow.Author.Needs.{needs}
 use Rattle.task.specs.Instruction.{decodeFor}
 use mathlib.Core.Path.{_∙_}
 use Rattle.task.proofs.Laws.Instruction.{keep-yes, keep-no}

@@ -1,6 +1,5 @@
 -- `task::reading::refused` meets its contract: the index is none, and the arrays are zeros.
 -- Assumes nothing.
-use borrow.Author.Needs.{needs}
 use Rattle.task.specs.Reading.{noTask, refused}
 use Rattle.task.proofs.reading.refused.Statement.{statement}
 use Rattle.task.proofs.reading.refused.Tie as tie
