@@ -38,7 +38,7 @@ ghost use mathlib.Core.Bool.{true, cond};
 ghost use lib.Dec.{eqb};
 ghost use lib.ListN.{length};
 ghost use Rattle.task.specs.Reading.{mayStand, lengthFits, headerTurn, actionTurn, presetTurn, caseTurn, closeTurn, kindTurn, turnOf, noIndex, refused, readTask};
-ghost use Rattle.task.specs.Outcome.{turned};
+ghost use Rattle.task.specs.Outcome.{state, turned};
 
 // The section of the file that the last record belongs to.
 pub enum Section {
@@ -100,7 +100,7 @@ fn read_header(task: &[u8], progress: Progress, body: usize, next: usize) -> Out
     requires { ⌜ body + 6 ≤ length (now task) ⌝ }
     ensures { λ r. ⌜ ((o q : List ℕ) →
         turned (progress .index) r o q
-        ≡ headerTurn (now (task .entry)) (record { progress = progress; offsets = o; presets = q }) body next) ⌝ }
+        ≡ headerTurn (now (task .entry)) (state progress o q) body next) ⌝ }
 {
     let bounds = bounds_at(task, body);
     if in_range(bounds) {
@@ -131,7 +131,7 @@ fn read_action(
     requires { ⌜ body + size ≤ length (now task) ⌝ }
     ensures { λ r. ⌜ ((q : List ℕ) →
         turned (progress .index) r (now (offsets .exit)) q
-        ≡ actionTurn (now (task .entry)) (record { progress = progress; offsets = now (offsets .entry); presets = q }) body size next) ⌝ }
+        ≡ actionTurn (now (task .entry)) (state progress (now (offsets .entry)) q) body size next) ⌝ }
 {
     let at = progress.at;
     let index = progress.index;
@@ -168,7 +168,7 @@ fn read_preset(
     requires { ⌜ body + 5 ≤ length (now task) ⌝ }
     ensures { λ r. ⌜ ((o : List ℕ) →
         turned (progress .index) r o (now (presets .exit))
-        ≡ presetTurn (now (task .entry)) (record { progress = progress; offsets = o; presets = now (presets .entry) }) body next) ⌝ }
+        ≡ presetTurn (now (task .entry)) (state progress o (now (presets .entry))) body next) ⌝ }
 {
     let at = progress.at;
     let index = progress.index;
@@ -204,7 +204,7 @@ fn read_case(task: &[u8], progress: Progress, body: usize, next: usize) -> Outco
     requires { ⌜ body + 24 ≤ length (now task) ⌝ }
     ensures { λ r. ⌜ ((o q : List ℕ) →
         turned (progress .index) r o q
-        ≡ caseTurn (now (task .entry)) (record { progress = progress; offsets = o; presets = q }) body next) ⌝ }
+        ≡ caseTurn (now (task .entry)) (state progress o q) body next) ⌝ }
 {
     let at = progress.at;
     let index = progress.index;
@@ -233,7 +233,7 @@ fn read_case(task: &[u8], progress: Progress, body: usize, next: usize) -> Outco
 fn read_close(task: &[u8], progress: Progress, next: usize) -> Outcome
     ensures { λ r. ⌜ ((o q : List ℕ) →
         turned (progress .index) r o q
-        ≡ closeTurn (now (task .entry)) (record { progress = progress; offsets = o; presets = q }) next) ⌝ }
+        ≡ closeTurn (now (task .entry)) (state progress o q) next) ⌝ }
 {
     if next == task.len() {
         Outcome::Closed
@@ -258,7 +258,7 @@ fn read_body(
         turned (progress .index) r (now (offsets .exit)) (now (presets .exit))
         ≡ kindTurn
         (now (task .entry))
-        (record { progress = progress; offsets = now (offsets .entry); presets = now (presets .entry) })
+        (state progress (now (offsets .entry)) (now (presets .entry)))
         kind
         body
         size
@@ -282,7 +282,7 @@ fn read_record(
 ) -> Outcome
     ensures { λ r. ⌜
         turned (progress .index) r (now (offsets .exit)) (now (presets .exit))
-        ≡ turnOf (now (task .entry)) (record { progress = progress; offsets = now (offsets .entry); presets = now (presets .entry) }) ⌝ }
+        ≡ turnOf (now (task .entry)) (state progress (now (offsets .entry)) (now (presets .entry))) ⌝ }
 {
     let at = progress.at;
     let found = record_at(task, at);

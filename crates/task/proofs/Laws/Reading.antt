@@ -18,7 +18,7 @@ use Rattle.task.specs.Bounds.{boundsAt, inRange}
 use Rattle.task.specs.Facts.{literalsAt, within, consistent, pairsBeforeFault}
 use Rattle.task.specs.Instruction.{decodeFor, encode, tripleAt, withTriple}
 use Rattle.task.specs.Program.{lineOffset}
-use Rattle.task.specs.Outcome.{turned}
+use Rattle.task.specs.Outcome.{state, turned}
 use Rattle.task.specs.Questions.{WHOLE, KIND, LENGTH, COUNT, BOUNDS, SETS, PRESET, REPEATED, CLOSED}
 use Rattle.task.specs.Reading.{State, ask, refused, mayStand, byKind, lengthFits, headerTurn, actionTurn, onPreset, presetTurn, caseTurn, closeTurn, kindTurn, onRecord, turnOf}
 use Rattle.task.specs.declared.bounds.Bounds.{Bounds}
@@ -33,11 +33,11 @@ use Rattle.task.specs.declared.reading.Reading.{Reading}
 use Rattle.task.specs.declared.reading.Section.the-variants.{Header, Actions, Presets, Cases}
 
 module _ (answer : Bool) (question place : ℕ) (rest : Turn State Reading) where
-  pub ask-yes : answer ≡ true → rest ≡ ask answer question place rest
+  ask-yes : answer ≡ true → rest ≡ ask answer question place rest
   unfolding ask
   ask-yes h = rw h
 
-  pub ask-no : answer ≡ false → stop (refused question place) ≡ ask answer question place rest
+  ask-no : answer ≡ false → stop (refused question place) ≡ ask answer question place rest
   unfolding ask
   ask-no h = rw h
 
@@ -63,21 +63,18 @@ module _ {A : Type 0} (kind : ℕ) (header action preset case close : A) where
   by-close h₁ h₂ h₃ h₄ = simp (ne-eqb kind 1 h₁, ne-eqb kind 2 h₂, ne-eqb kind 3 h₃, ne-eqb kind 4 h₄)
 
 module _ (bytes : List ℕ) (p : Progress) (body next : ℕ) (o q : List ℕ) where
-  abbrev s : State
-  s = record { progress = p; offsets = o; presets = q }
-
   module _ (b : Bounds) (r : Bool) (e : b ≡ boundsAt bytes body) (f : r ≡ inRange b) where
-    pub header-no : r ≡ false → turned (p .index) (Refused BOUNDS (p .at)) o q ≡ headerTurn bytes s body next
+    pub header-no : r ≡ false → turned (p .index) (Refused BOUNDS (p .at)) o q ≡ headerTurn bytes (state p o q) body next
     unfolding turned headerTurn
     header-no h = ask-no _ _ _ _ (cc)
 
     pub header-yes : r ≡ true
         → turned (p .index) (Next (record { at = next; section = Header; index = record { bounds = b; actions = 0; cases = 0; first = 0 } })) o q
-        ≡ headerTurn bytes s body next
+        ≡ headerTurn bytes (state p o q) body next
     unfolding turned headerTurn
     header-yes h = rw e (ask-yes _ _ _ _ (cc))
 
-  pub action-full : (size : ℕ) → 64 ≤ p .index .actions → turned (p .index) (Refused COUNT (p .at)) o q ≡ actionTurn bytes s body size next
+  pub action-full : (size : ℕ) → 64 ≤ p .index .actions → turned (p .index) (Refused COUNT (p .at)) o q ≡ actionTurn bytes (state p o q) body size next
   unfolding turned actionTurn
   action-full size h = ask-no _ _ _ _ (le-ltb (p .index .actions) 64 h)
 
@@ -85,7 +82,7 @@ module _ (bytes : List ℕ) (p : Progress) (body next : ℕ) (o q : List ℕ) wh
     counted : ltb (p .index .actions) 64 ≡ true
     counted = lt-ltb (p .index .actions) 64 h
 
-    pub action-no : (pairs ≡ size / 16 → ⊥) → turned (p .index) (Refused SETS (p .at)) o q ≡ actionTurn bytes s body size next
+    pub action-no : (pairs ≡ size / 16 → ⊥) → turned (p .index) (Refused SETS (p .at)) o q ≡ actionTurn bytes (state p o q) body size next
     unfolding turned actionTurn
     action-no n = ask-no _ _ _ _ (rw (← e) (ne-eqb pairs (size / 16) n)) ∙ ask-yes _ _ _ _ counted
 
@@ -93,18 +90,18 @@ module _ (bytes : List ℕ) (p : Progress) (body next : ℕ) (o q : List ℕ) wh
         → turned (p .index)
         (Next (record { at = next; section = Actions; index = record { bounds = p .index .bounds; actions = p .index .actions + 1; cases = p .index .cases; first = p .index .first } }))
         (set o (p .index .actions) (p .at)) q
-        ≡ actionTurn bytes s body size next
+        ≡ actionTurn bytes (state p o q) body size next
     unfolding turned actionTurn
     action-yes y = ask-yes _ _ _ _ (rw (← e) (eq-eqb pairs (size / 16) y)) ∙ ask-yes _ _ _ _ counted
 
   module _ (procedure line : ℕ) (t : Triple) (d : Decoded)
       (e₁ : procedure ≡ byteAt bytes body) (e₂ : line ≡ byteAt bytes (body + 1)) (e₃ : t ≡ tripleAt bytes (body + 2))
       (e₄ : d ≡ decodeFor (p .index .bounds) (p .index .actions) (record { 0 = procedure }) (record { 0 = line }) t) where
-    on-preset : onPreset bytes s body next d ≡ presetTurn bytes s body next
+    on-preset : onPreset bytes (state p o q) body next d ≡ presetTurn bytes (state p o q) body next
     unfolding presetTurn
     on-preset = rw (e₄, e₁, e₂, e₃) refl
 
-    pub preset-no : d ≡ Nothing → turned (p .index) (Refused PRESET (p .at)) o q ≡ presetTurn bytes s body next
+    pub preset-no : d ≡ Nothing → turned (p .index) (Refused PRESET (p .at)) o q ≡ presetTurn bytes (state p o q) body next
     unfolding turned onPreset
     preset-no h = rw h at on-preset
 
@@ -113,16 +110,16 @@ module _ (bytes : List ℕ) (p : Progress) (body next : ℕ) (o q : List ℕ) wh
       here : byte ≡ byteAt q (lineOffset (p .index .bounds) (record { 0 = byteAt bytes body }) (record { 0 = byteAt bytes (body + 1) }))
       here = cc
 
-      pub preset-again : (byte ≡ 0 → ⊥) → turned (p .index) (Refused REPEATED (p .at)) o q ≡ presetTurn bytes s body next
+      pub preset-again : (byte ≡ 0 → ⊥) → turned (p .index) (Refused REPEATED (p .at)) o q ≡ presetTurn bytes (state p o q) body next
       unfolding turned onPreset
       preset-again n = ask-no _ _ _ _ (rw (← here) (ne-eqb byte 0 n)) ∙ rw a at on-preset
 
       pub preset-yes : (q′ : List ℕ) → q′ ≡ withTriple q offset (encode w) → byte ≡ 0
-          → turned (p .index) (Next (record { at = next; section = Presets; index = p .index })) o q′ ≡ presetTurn bytes s body next
+          → turned (p .index) (Next (record { at = next; section = Presets; index = p .index })) o q′ ≡ presetTurn bytes (state p o q) body next
       unfolding turned onPreset
       preset-yes q′ h z = rw (h, f, e₁, e₂) (ask-yes _ _ _ _ (rw (← here) (eq-eqb byte 0 z)) ∙ rw a at on-preset)
 
-  pub case-full : 32 ≤ p .index .cases → turned (p .index) (Refused COUNT (p .at)) o q ≡ caseTurn bytes s body next
+  pub case-full : 32 ≤ p .index .cases → turned (p .index) (Refused COUNT (p .at)) o q ≡ caseTurn bytes (state p o q) body next
   unfolding turned caseTurn
   case-full h = ask-no _ _ _ _ (le-ltb (p .index .cases) 32 h)
 
@@ -131,7 +128,7 @@ module _ (bytes : List ℕ) (p : Progress) (body next : ℕ) (o q : List ℕ) wh
     few : ltb (p .index .cases) 32 ≡ true
     few = lt-ltb (p .index .cases) 32 h
 
-    pub case-no : (i && c) ≡ false → turned (p .index) (Refused SETS (p .at)) o q ≡ caseTurn bytes s body next
+    pub case-no : (i && c) ≡ false → turned (p .index) (Refused SETS (p .at)) o q ≡ caseTurn bytes (state p o q) body next
     unfolding turned caseTurn
     case-no n = ask-no _ _ _ _ (cc) ∙ ask-yes _ _ _ _ few
 
@@ -139,7 +136,7 @@ module _ (bytes : List ℕ) (p : Progress) (body next : ℕ) (o q : List ℕ) wh
         → turned (p .index)
         (Next (record { at = next; section = Cases; index = record { bounds = p .index .bounds; actions = p .index .actions; cases = p .index .cases + 1; first = first } }))
         o q
-        ≡ caseTurn bytes s body next
+        ≡ caseTurn bytes (state p o q) body next
     unfolding turned caseTurn
     case-yes first f y = rw f (ask-yes _ _ _ _ (cc) ∙ ask-yes _ _ _ _ few)
 
@@ -167,38 +164,38 @@ body-there bytes at f e kind body size next r = omega (arith, record-ends bytes 
 
 -- the record that `f` found at the reading's offset
 module _ (bytes : List ℕ) (p : Progress) (o q : List ℕ) (f : Found) (e : f ≡ recordAt bytes (p .at)) where
-  pub record-no : f ≡ Missing → turned (p .index) (Refused WHOLE (p .at)) o q ≡ turnOf bytes (record { progress = p; offsets = o; presets = q })
+  pub record-no : f ≡ Missing → turned (p .index) (Refused WHOLE (p .at)) o q ≡ turnOf bytes (state p o q)
   unfolding turned turnOf onRecord
   record-no h = rw (← e, h)
 
   module _ (kind body size next : ℕ) (r : f ≡ Record kind body size next) where
-    on-record : onRecord bytes (record { progress = p; offsets = o; presets = q }) (Record kind body size next)
-        ≡ turnOf bytes (record { progress = p; offsets = o; presets = q })
+    on-record : onRecord bytes (state p o q) (Record kind body size next)
+        ≡ turnOf bytes (state p o q)
     unfolding turnOf
     on-record = rw (← e, r) refl
 
     module _ (m : Bool) (g : m ≡ mayStand (p .section) kind) where
-      pub kind-no : m ≡ false → turned (p .index) (Refused KIND (p .at)) o q ≡ turnOf bytes (record { progress = p; offsets = o; presets = q })
+      pub kind-no : m ≡ false → turned (p .index) (Refused KIND (p .at)) o q ≡ turnOf bytes (state p o q)
       unfolding turned onRecord
       kind-no h = ask-no _ _ _ _ (sym g ∙ h) ∙ on-record
 
       module _ (y : m ≡ true) (l : Bool) (k : l ≡ lengthFits kind size) where
-        pub length-no : l ≡ false → turned (p .index) (Refused LENGTH (p .at)) o q ≡ turnOf bytes (record { progress = p; offsets = o; presets = q })
+        pub length-no : l ≡ false → turned (p .index) (Refused LENGTH (p .at)) o q ≡ turnOf bytes (state p o q)
         unfolding turned onRecord
         length-no h = ask-no _ _ _ _ (sym k ∙ h) ∙ ask-yes _ _ _ _ (sym g ∙ y) ∙ on-record
 
         -- past questions 1 to 3 the turn is what the kind asks
         pub kind-turn : l ≡ true → (t : Turn State Reading)
-            → t ≡ kindTurn bytes (record { progress = p; offsets = o; presets = q }) kind body size next
-            → t ≡ turnOf bytes (record { progress = p; offsets = o; presets = q })
+            → t ≡ kindTurn bytes (state p o q) kind body size next
+            → t ≡ turnOf bytes (state p o q)
         unfolding onRecord
         kind-turn h t d = d ∙ ask-yes _ _ _ _ (sym k ∙ h) ∙ ask-yes _ _ _ _ (sym g ∙ y) ∙ on-record
 
 module _ (bytes : List ℕ) (p : Progress) (next : ℕ) (o q : List ℕ) where
-  pub close-no : (next ≡ length bytes → ⊥) → turned (p .index) (Refused CLOSED next) o q ≡ closeTurn bytes (record { progress = p; offsets = o; presets = q }) next
+  pub close-no : (next ≡ length bytes → ⊥) → turned (p .index) (Refused CLOSED next) o q ≡ closeTurn bytes (state p o q) next
   unfolding turned closeTurn
   close-no h = ask-no _ _ _ _ (ne-eqb next (length bytes) h)
 
-  pub close-yes : next ≡ length bytes → turned (p .index) Closed o q ≡ closeTurn bytes (record { progress = p; offsets = o; presets = q }) next
+  pub close-yes : next ≡ length bytes → turned (p .index) Closed o q ≡ closeTurn bytes (state p o q) next
   unfolding turned closeTurn
   close-yes h = ask-yes _ _ _ _ (eq-eqb next (length bytes) h)

@@ -14,7 +14,7 @@ use Rattle.records.specs.declared.record.Found.{Found}
 use Rattle.records.specs.declared.record.Found.the-variants.{Record, Missing}
 use Rattle.records.proofs.Laws.Loop.{unroll}
 use Rattle.records.proofs.Laws.Record.{record-ends}
-use Rattle.task.specs.Outcome.{turned}
+use Rattle.task.specs.Outcome.{state, turned}
 use Rattle.task.specs.Questions.{WHOLE}
 use Rattle.task.specs.Reading.{State, begin, refused, accepted, ask, byKind, headerTurn, actionTurn, onPreset, presetTurn, caseTurn, closeTurn, kindTurn, onRecord, turnOf, left, readTask}
 use Rattle.task.specs.declared.index.Index.{Index}
@@ -113,7 +113,7 @@ module _ (bytes : List ℕ) (s : State) (index : Index) (o q : List ℕ) (outcom
     unfolding from
     step = ap (λ (t : Turn State Reading). after t (from bytes)) e ∙ sym (unroll (turnOf bytes) (left bytes) (refused WHOLE 0) (falls bytes) s) ∙ r
 
-    pub from-next : (p : Progress) → outcome ≡ Next p → from bytes (record { progress = p; offsets = o; presets = q }) ≡ readTask bytes
+    pub from-next : (p : Progress) → outcome ≡ Next p → from bytes (state p o q) ≡ readTask bytes
     unfolding turned after
     from-next p h = rw h at step
 

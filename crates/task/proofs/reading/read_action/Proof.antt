@@ -10,7 +10,7 @@ cast-number : tie.Need-cast-number
 cast-number c = search needs
 
 returns : tie.Need-returns
-returns c = λ q. action-full _ _ _ _ _ q _ (c .if1 .taken)
+returns c = λ q. action-full _ _ _ _ _ q _ (omega arith)
 
 pairs-before-fault-requires : tie.Need-pairs-before-fault-requires
 pairs-before-fault-requires c κs = search needs

@@ -7,7 +7,7 @@ use Rattle.task.proofs.reading.read_case.Statement.{statement}
 use Rattle.task.proofs.reading.read_case.Tie as tie
 
 returns : tie.Need-returns
-returns c = λ o q. case-full _ _ _ _ o q (c .if1 .taken)
+returns c = λ o q. case-full _ _ _ _ o q (omega arith)
 
 u64-at-requires : tie.Need-u64-at-requires
 u64-at-requires c κs = tt

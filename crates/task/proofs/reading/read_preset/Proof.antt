@@ -2,6 +2,7 @@
 -- Assumes nothing.
 use borrow.Author.Needs.{needs}
 use mathlib.Core.Path.{ap, _∙_}
+use native.Mathlib.Omega.{arith}
 use Rattle.task.specs.Instruction.{withTriple}
 use Rattle.task.proofs.Laws.Reading.{preset-no, preset-again, preset-yes}
 use Rattle.task.proofs.reading.read_preset.Statement.{statement}
@@ -60,7 +61,7 @@ returns-2 c =
     let at-byte-at = at-byte-at2 .before in
     λ o. preset-again _ _ _ _ o _ _ _ _ _ (at-byte-at .byte-at .ensures) (at-byte-at2 .byte-at2 .ensures)
     (at-triple-at .triple-at .ensures) (at-decode-for .decode-for .ensures) _ (at-decoded .decoded .given .1) _ _
-    (at-line-offset .line-offset .ensures) (at-byte-at3 .byte-at3 .ensures) (c .if1 .taken)
+    (at-line-offset .line-offset .ensures) (at-byte-at3 .byte-at3 .ensures) (omega arith)
 
 encode-requires : tie.Need-encode-requires
 encode-requires c κs = tt
@@ -75,8 +76,7 @@ returns-3 : tie.Need-returns-3
 returns-3 c =
     let at-put-triple = c .before .before in
     let at-encode = at-put-triple .before in
-    let at-if1 = at-encode .before .before in
-    let at-byte-at3 = at-if1 .before in
+    let at-byte-at3 = at-encode .before .before .before in
     let at-line-offset = at-byte-at3 .before .before in
     let at-decoded = at-line-offset .before .before in
     let at-decode-for = at-decoded .before .before in
@@ -86,7 +86,7 @@ returns-3 c =
     λ o. preset-yes _ _ _ _ o _ _ _ _ _ (at-byte-at .byte-at .ensures) (at-byte-at2 .byte-at2 .ensures)
     (at-triple-at .triple-at .ensures) (at-decode-for .decode-for .ensures) _ (at-decoded .decoded .given .1) _ _
     (at-line-offset .line-offset .ensures) (at-byte-at3 .byte-at3 .ensures) _
-    (at-put-triple .put-triple .ensures ∙ ap (withTriple _ _) (at-encode .encode .ensures)) (at-if1 .if1 .left)
+    (at-put-triple .put-triple .ensures ∙ ap (withTriple _ _) (at-encode .encode .ensures)) (omega arith)
 
 pub read-preset-spec : {M : Type 1} → statement M
 read-preset-spec =

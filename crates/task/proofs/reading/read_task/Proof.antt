@@ -4,6 +4,7 @@ use Prim.Native.Nat.{_-_}
 use mathlib.Core.Path.{_≡_, refl, _∙_}
 use lib.ListN.{length}
 use borrow.Author.Needs.{needs}
+use Rattle.task.specs.Outcome.{state}
 use Rattle.task.specs.Reading.{noTask, begin, accepted, readTask}
 use Rattle.task.proofs.Laws.Turns.{from, from-begin, from-next, from-refused, from-closed, next-falls}
 use Rattle.task.proofs.reading.read_task.Statement.{statement}
@@ -11,7 +12,7 @@ use Rattle.task.proofs.reading.read_task.Tie as tie
 
 abbrev Inv-loop : tie.InvT-loop
 Inv-loop task offsets₀ presets₀ progress₀ offsets presets progress =
-    (from task (record { progress = progress; offsets = offsets; presets = presets }) ≡ readTask task) × (length presets ≡ 768)
+    (from task (state progress offsets presets) ≡ readTask task) × (length presets ≡ 768)
 
 abbrev μ-loop : tie.MeasureT-loop
 μ-loop task offsets₀ presets₀ progress₀ offsets presets progress = length task - progress .at
