@@ -1,8 +1,11 @@
--- The laws of the definitions in specs/, each in a file with the definition's name; those of Reading's loop are in Turns.
+-- The laws of the definitions in specs/, each in a file with the definition's name; those of Reading's loop are in Turns, what its turns
+-- keep is in Kept, and what a task that passes holds in Passed.
 pub mod Bounds
 pub mod Facts
 pub mod First
 pub mod Instruction
+pub mod Kept
+pub mod Passed
 pub mod Program
 pub mod Reading
 pub mod Turns

@@ -23,6 +23,10 @@ use Rattle.task.specs.declared.verdict.Verdict.the-variants.{Accepted, R
 unfoldable pub lineOffset : Bounds → Proc → Line → ℕ
 lineOffset b procedure line = 3 * (procedure .0 * (b .last + 1) + line .0)
 
+-- the instruction on a line of a procedure, if the line's three bytes spell one that is allowed there
+unfoldable pub instructionOn : Index → List ℕ → Proc → Line → Decoded
+instructionOn i program procedure line = decode (i .bounds) (i .actions) line (tripleAt program (lineOffset (i .bounds) procedure line))
+
 -- whether three bytes decoded to an instruction
 unfoldable pub isInstruction : Decoded → Bool
 isInstruction (Is w) = true

@@ -2,10 +2,10 @@
 -- first no ends the reading, with the record's offset as the place (for 9 the offset after the closing record).
 use Prim.Native.Nat.{ℕ, _+_, _-_, _/_, _%_}
 use mathlib.Core.List.{List}
-use mathlib.Core.Bool.{Bool, true, false, cond, _&&_}
+use mathlib.Core.Bool.{Bool, cond, _&&_}
 use lib.ListN.{length, set, replicate}
 use lib.Dec.{leb, ltb, eqb}
-use Rattle.records.specs.Loop.{Turn, stop, go, loop}
+use Rattle.records.specs.Loop.{Turn, stop, go, ask, loop}
 use Rattle.records.specs.Numbers.{byteAt, u64At}
 use Rattle.records.specs.Record.{recordAt}
 use Rattle.records.specs.declared.record.Found.{Found}
@@ -55,11 +55,6 @@ refused question place = record { verdict = Refused question place; task = noTas
 unfoldable pub accepted : Task → Reading
 accepted task = record { verdict = Accepted 0; task = task }
 
--- a question, with its number and place: no ends the reading
-unfoldable pub ask : Bool → ℕ → ℕ → Turn State Reading → Turn State Reading
-ask true question place rest = rest
-ask false question place rest = stop (refused question place)
-
 -- question 2: kind 1 comes first, then 2; after a 2 comes 2, 3 or 4; after a 3, 3 or 4; after a 4, 4 or 5
 unfoldable pub mayStand : Section → ℕ → Bool
 mayStand Start kind = eqb kind 1
@@ -88,7 +83,7 @@ module _ (bytes : List ℕ) (s : State) (body : ℕ) where
   -- bounds: question 5
   unfoldable pub headerTurn : ℕ → Turn State Reading
   headerTurn next =
-      ask (inRange (boundsAt bytes body)) BOUNDS at
+      ask (inRange (boundsAt bytes body)) (refused BOUNDS at)
       (go
       (record {
         progress = record { at = next; section = Header; index = record { bounds = boundsAt bytes body; actions = 0; cases = 0; first = 0 } };
@@ -99,8 +94,8 @@ module _ (bytes : List ℕ) (s : State) (body : ℕ) where
   -- an action, of size / 16 pairs: question 4, then 6 on every pair; its offset is noted
   unfoldable pub actionTurn : ℕ → ℕ → Turn State Reading
   actionTurn size next =
-      ask (ltb (index .actions) 64) COUNT at
-      (ask (eqb (pairsBeforeFault (index .bounds .facts) bytes body (size / 16)) (size / 16)) SETS at
+      ask (ltb (index .actions) 64) (refused COUNT at)
+      (ask (eqb (pairsBeforeFault (index .bounds .facts) bytes body (size / 16)) (size / 16)) (refused SETS at)
       (go
       (record {
         progress =
@@ -124,7 +119,7 @@ module _ (bytes : List ℕ) (s : State) (body : ℕ) where
   unfoldable pub onPreset : ℕ → Decoded → Turn State Reading
   onPreset next Nothing = stop (refused PRESET at)
   onPreset next (Is w) =
-      ask (eqb (byteAt (s .presets) (lineOffset (index .bounds) presetProc presetLine)) 0) REPEATED at
+      ask (eqb (byteAt (s .presets) (lineOffset (index .bounds) presetProc presetLine)) 0) (refused REPEATED at)
       (go
       (record {
         progress = record { at = next; section = Presets; index = index };
@@ -139,11 +134,10 @@ module _ (bytes : List ℕ) (s : State) (body : ℕ) where
   -- a case: question 4, then 6 on its start set and its goal pair; the first case's offset is noted
   unfoldable pub caseTurn : ℕ → Turn State Reading
   caseTurn next =
-      ask (ltb (index .cases) 32) COUNT at
+      ask (ltb (index .cases) 32) (refused COUNT at)
       (ask
       (within (index .bounds .facts) (u64At bytes body) && consistent (index .bounds .facts) (literalsAt bytes (body + 8)))
-      SETS
-      at
+      (refused SETS at)
       (go
       (record {
         progress =
@@ -165,7 +159,7 @@ module _ (bytes : List ℕ) (s : State) (body : ℕ) where
 -- the closing record: question 9; the task is what was read
 unfoldable pub closeTurn : List ℕ → State → ℕ → Turn State Reading
 closeTurn bytes s next =
-    ask (eqb next (length bytes)) CLOSED next
+    ask (eqb next (length bytes)) (refused CLOSED next)
     (stop (accepted (record { index = s .progress .index; offsets = s .offsets; presets = s .presets })))
 
 -- what the record's kind asks
@@ -182,8 +176,8 @@ kindTurn bytes s kind body size next =
 unfoldable pub onRecord : List ℕ → State → Found → Turn State Reading
 onRecord bytes s Missing = stop (refused WHOLE (s .progress .at))
 onRecord bytes s (Record kind body size next) =
-    ask (mayStand (s .progress .section) kind) KIND (s .progress .at)
-    (ask (lengthFits kind size) LENGTH (s .progress .at) (kindTurn bytes s kind body size next))
+    ask (mayStand (s .progress .section) kind) (refused KIND (s .progress .at))
+    (ask (lengthFits kind size) (refused LENGTH (s .progress .at)) (kindTurn bytes s kind body size next))
 
 -- one turn of the reading
 unfoldable pub turnOf : List ℕ → State → Turn State Reading

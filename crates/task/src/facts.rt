@@ -28,7 +28,7 @@ pub(crate) fn literals_at(bytes: &[u8], at: usize) -> Literals
 }
 
 // Whether a set uses bits below `facts` alone.
-pub(crate) fn within(facts: u8, set: u64) -> bool
+pub fn within(facts: u8, set: u64) -> bool
     ensures { λ r. ⌜ r ≡ within facts set ⌝ }
 {
     if 64 <= facts {

@@ -7,9 +7,11 @@ ghost use Rattle.task.specs.Instruction.{keep, decode, decodeFor, encode
 ghost use Rattle.task.specs.declared.instruction.Decoded.the-variants.{Is};
 
 // A procedure's number.
+#[repr(C)]
 pub struct Proc(pub u8);
 
 // A line's number in its procedure.
+#[repr(C)]
 pub struct Line(pub u8);
 
 // An instruction's three bytes.

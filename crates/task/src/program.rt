@@ -17,13 +17,22 @@ ghost use Prim.Native.Nat.{_+_, _*_, _≤_};
 ghost use lib.ListN.{length};
 ghost use Rattle.task.specs.Bounds.{lineCount};
 ghost use Rattle.task.specs.First.{firstNo};
-ghost use Rattle.task.specs.Program.{lineOffset, isInstruction, lineAllowed, sameTriple, presetHeld, programVerdict};
+ghost use Rattle.task.specs.Program.{lineOffset, instructionOn, isInstruction, lineAllowed, sameTriple, presetHeld, programVerdict};
 
 // Where a line of a procedure begins in a program.
 pub(crate) fn line_offset(b: Bounds, procedure: Proc, line: Line) -> usize
     ensures { λ r. ⌜ r ≡ lineOffset b procedure line ⌝ }
 {
     3 * (procedure.0 as usize * (b.last as usize + 1) + line.0 as usize)
+}
+
+// The instruction on a line of a procedure, if the line's three bytes spell one that is allowed there.
+pub fn instruction_on(index: Index, program: &[u8], procedure: Proc, line: Line) -> Decoded
+    ensures { λ r. ⌜ r ≡ instructionOn index (now (program .entry)) procedure line ⌝ }
+{
+    let bounds = index.bounds;
+    let triple = triple_at(program, line_offset(bounds, procedure, line));
+    decode(bounds, index.actions, line, triple)
 }
 
 // Whether three bytes decoded to an instruction.

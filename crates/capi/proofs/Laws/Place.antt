@@ -4,29 +4,26 @@
 -- Assumes nothing.
 use Prim.Native.Nat.{ℕ, zero, suc, _+_, _-_, _*_, _^_, _≤_, _<_, zero-le}
 use mathlib.Core.Path.{_≡_, refl, _∙_}
-use mathlib.Core.Bool.{Bool, true, false, cond, _&&_}
+use mathlib.Core.Bool.{Bool, true, _&&_}
 use mathlib.Core.List.{List}
 use native.Mathlib.Decide.{le-ind}
 use native.Mathlib.Nat.{mul-le-mul}
 use native.Mathlib.Omega.{arith}
-use lib.ListN.{length, set, replicate, length-set, length-replicate}
+use lib.ListN.{length, set, replicate, length-replicate}
 use lib.Seq.{getD-set-same, getD-set-other}
-use lib.Dec.{leb, ltb, eqb}
-use borrow.Author.Tests.{ltb-true, leb-true, eqb-true}
-use Rattle.records.specs.Loop.{Turn}
+use lib.Dec.{ltb}
+use borrow.Author.Tests.{ltb-true, eqb-true}
+use Rattle.records.specs.Loop.{Turn, ask}
 use Rattle.records.specs.Numbers.{byteAt}
-use Rattle.records.specs.Record.{recordAt}
-use Rattle.records.specs.declared.record.Found.{Found}
-use Rattle.records.specs.declared.record.Found.the-variants.{Record, Missing}
-use Rattle.records.proofs.Laws.Loop.{Keeps, loop-keeps}
-use Rattle.records.proofs.Laws.Record.{record-ends}
+use Rattle.records.proofs.Laws.Loop.{Keeps, ask-keeps}
 use Rattle.records.proofs.Laws.Tests.{both-true}
-use Rattle.task.proofs.Laws.Instruction.{encode-decode}
-use Rattle.task.specs.Bounds.{boundsAt, between, inRange}
-use Rattle.task.specs.Instruction.{keep, spelled, allowed, whereAllowed, decode, decodeFor, encode, tripleAt, withTriple}
+use Rattle.task.proofs.Laws.Bounds.{ranges}
+use Rattle.task.proofs.Laws.Instruction.{keep-is, Allowed, allows, decode-allowed, encode-decode, put-length}
+use Rattle.task.proofs.Laws.Kept.{least, Kinds, reading-keeps}
+use Rattle.task.specs.Bounds.{boundsAt}
+use Rattle.task.specs.Instruction.{decode, decodeFor, encode, tripleAt, withTriple}
 use Rattle.task.specs.Program.{lineOffset}
-use Rattle.task.specs.Questions.{WHOLE}
-use Rattle.task.specs.Reading.{State, noIndex, noTask, begin, refused, accepted, ask, mayStand, byKind, lengthFits, headerTurn, actionTurn, onPreset, presetTurn, caseTurn, closeTurn, kindTurn, onRecord, turnOf, left, readTask}
+use Rattle.task.specs.Reading.{State, noIndex, noTask, begin, refused, accepted, headerTurn, actionTurn, onPreset, presetTurn, caseTurn, closeTurn, readTask}
 use Rattle.task.specs.Verdict.{valueOf}
 use Rattle.task.specs.declared.bounds.Bounds.{Bounds}
 use Rattle.task.specs.declared.instruction.Line.{Line}
@@ -37,8 +34,6 @@ use Rattle.task.specs.declared.instruction.Instruction.the-variants.{Empty, Act
 use Rattle.task.specs.declared.instruction.Decoded.{Decoded}
 use Rattle.task.specs.declared.instruction.Decoded.the-variants.{Is, Nothing}
 use Rattle.task.specs.declared.reading.Reading.{Reading}
-use Rattle.task.specs.declared.reading.Section.{Section}
-use Rattle.task.specs.declared.reading.Section.the-variants.{Start, Header, Actions, Presets, Cases}
 
 -- how many of the first so many lines of a preset program are not preset
 free : List ℕ → ℕ → ℕ
@@ -54,10 +49,6 @@ free-most presets (suc k) = omega (arith, free-most presets k)
 module _ (presets : List ℕ) (line : ℕ) (w : Triple) where
   abbrev put : List ℕ
   put = withTriple presets (3 * line) w
-
-  put-length : length put ≡ length presets
-  unfolding withTriple
-  put-length = simp length-set
 
   put-beside : (at : ℕ) → (at ≡ 3 * line + 1 → ⊥) → (at ≡ 3 * line + 2 → ⊥) → byteAt put at ≡ byteAt (set presets (3 * line) (w .op)) at
   unfolding withTriple
@@ -84,37 +75,25 @@ module _ (presets : List ℕ) (line : ℕ) (w : Triple) where
         (omega (arith, free-before line (omega arith), put-here h))
         (λ k l i. omega (arith, put-other k (omega arith)))
 
-kept : (t : Bool) (d : Decoded) (w : Instruction) → keep t d ≡ Is w → (t ≡ true) × (d ≡ Is w)
-unfolding keep
-kept true d w h = (refl, h)
-kept false d w h = let z : _≡_ {A = ℕ} 0 1 = cc in absurd (omega arith)
-
 -- an instruction that is allowed on a line: the line is no more than the last
 module _ (b : Bounds) (actions : ℕ) (line : Line) where
-  allowed-line : (w : Instruction) → allowed b actions line w ≡ true → line .0 ≤ b .last
-  unfolding allowed
-  allowed-line Empty h = leb-true (line .0) (b .last) h
-  allowed-line (Act action) h = omega (arith, ltb-true (line .0) (b .last) (both-true _ _ h .0))
-  allowed-line (Goto target fact) h = omega (arith, ltb-true (line .0) (b .last) (both-true _ _ (both-true _ _ h .0) .0))
-  allowed-line (Call procedure) h = omega (arith, ltb-true (line .0) (b .last) (both-true _ _ h .0))
-  allowed-line End h = leb-true (line .0) (b .last) (both-true (leb 1 (line .0)) _ h .1)
-
-  on-line : (d : Decoded) (w : Instruction) → whereAllowed b actions line d ≡ Is w → line .0 ≤ b .last
-  unfolding whereAllowed
-  on-line (Is v) w h = allowed-line v (kept _ _ w h .0)
-  on-line Nothing w h = let z : _≡_ {A = ℕ} 0 1 = cc in absurd (omega arith)
+  allowed-line : (w : Instruction) → Allowed b actions line w → line .0 ≤ b .last
+  allowed-line Empty h = h
+  allowed-line (Act action) h = omega arith
+  allowed-line (Goto target fact) h = omega arith
+  allowed-line (Call procedure) h = omega arith
+  allowed-line End h = h .1
 
   module _ (procedure : Proc) (t : Triple) (w : Instruction) (h : decodeFor b actions procedure line t ≡ Is w) where
     for-tests : (procedure .0 < b .procedures) × (0 < t .op) × (decode b actions line t ≡ Is w)
     unfolding decodeFor
     for-tests =
-        let k = kept (ltb (procedure .0) (b .procedures) && ltb 0 (t .op)) _ w h in
+        let k = keep-is (ltb (procedure .0) (b .procedures) && ltb 0 (t .op)) _ w h in
         let z = both-true _ _ (k .0) in
         (ltb-true (procedure .0) (b .procedures) (z .0), ltb-true 0 (t .op) (z .1), k .1)
 
     for-line : line .0 ≤ b .last
-    unfolding decode
-    for-line = on-line (spelled t) w (for-tests .2)
+    for-line = allowed-line w (allows b actions line w (decode-allowed b actions line t w (for-tests .2)))
 
     for-op : 0 < encode w .op
     for-op = rw (encode-decode b actions line t w (for-tests .2)) (for-tests .1)
@@ -127,20 +106,12 @@ module _ (b : Bounds) (actions : ℕ) (line : Line) where
 abbrev most : ℕ
 most = 10 + 9 * 256 + 276 * 64 + 28 * 32
 
--- the greatest offset at which the reading may stand in a section
-abbrev reach : Section → ℕ
-reach Start = 0
-reach Header = most
-reach Actions = most
-reach Presets = most
-reach Cases = most
-
 -- a state that the reading may come to
 record Small (s : State) : Type 0 where
   size : length (s .presets) ≡ 768
   procedures : s .progress .index .bounds .procedures ≤ 8
   last : s .progress .index .bounds .last ≤ 31
-  first : s .progress .at ≤ reach (s .progress .section)
+  first : least (s .progress .section) ≤ 1 → s .progress .at ≡ 0
   room : s .progress .at + 9 * free (s .presets) 256 + 276 * (64 - s .progress .index .actions) + 28 * (32 - s .progress .index .cases) ≤ most
 
 begin-small : Small begin
@@ -163,47 +134,9 @@ abbrev Good : Turn State Reading → Type 0
 Good = Keeps Small Near
 
 ask-good : (answer : Bool) (question place : ℕ) (rest : Turn State Reading) → place < 2 ^ 32 → (answer ≡ true → Good rest)
-    → Good (ask answer question place rest)
-unfolding ask refused
-ask-good true question place rest h k = k refl
-ask-good false question place rest h k = h
-
--- a turn and its question 3, chosen by one test
-fork-good : (b c d : Bool) (x y : Turn State Reading) → cond b c d ≡ true → (b ≡ true → c ≡ true → Good x) → (d ≡ true → Good y) → Good (cond b x y)
-fork-good true c d x y h k l = k refl h
-fork-good false c d x y h k l = l h
-
--- what each kind asks, its length as question 3 has it
-kind-good : (kind size : ℕ) (header action preset case close : Turn State Reading) → lengthFits kind size ≡ true
-    → (kind ≡ 1 → size ≡ 6 → Good header) → (size ≤ 272 → Good action) → (size ≡ 5 → Good preset) → (size ≡ 24 → Good case) → (size ≡ 0 → Good close)
-    → Good (byKind kind header action preset case close)
-unfolding lengthFits byKind
-kind-good kind size header action preset case close h h₁ h₂ h₃ h₄ h₅ =
-    fork-good (eqb kind 1) _ _ header _ h (λ e f. h₁ (eqb-true kind 1 e) (eqb-true size 6 f))
-    (λ l₁. fork-good (eqb kind 2) _ _ action _ l₁ (λ e f. h₂ (leb-true size 272 (both-true _ _ f .0)))
-    (λ l₂. fork-good (eqb kind 3) _ _ preset _ l₂ (λ e f. h₃ (eqb-true size 5 f))
-    (λ l₃. fork-good (eqb kind 4) _ _ case close l₃ (λ e f. h₄ (eqb-true size 24 f)) (λ l₄. h₅ (eqb-true size 0 l₄)))))
-
-range-small : (b : Bounds) → inRange b ≡ true → (b .procedures ≤ 8) × (b .last ≤ 31)
-unfolding inRange
-range-small b h =
-    let f = between 1 (b .facts) 64 in
-    let p = between 1 (b .procedures) 8 in
-    let l = between 1 (b .last) 31 in
-    let t = between 1 (b .stack) 16 in
-    let k = both-true (f && p) l (both-true (f && p && l) t (both-true (f && p && l && t) _ h .0) .0) in (
-      leb-true (b .procedures) 8 (both-true (leb 1 (b .procedures)) _ (both-true f p (k .0) .1) .1),
-      leb-true (b .last) 31 (both-true (leb 1 (b .last)) _ (k .1) .1),
-    )
-
--- kind 1 stands first alone
-first-alone : (section : Section) (kind : ℕ) → mayStand section kind ≡ true → kind ≡ 1 → reach section ≡ 0
-unfolding mayStand
-first-alone Start kind h e = refl
-first-alone Header kind h e = omega (arith, eqb-true kind 2 h)
-first-alone Actions kind h e = omega (arith, leb-true 2 kind (both-true _ _ h .0))
-first-alone Presets kind h e = omega (arith, leb-true 3 kind (both-true _ _ h .0))
-first-alone Cases kind h e = omega (arith, leb-true 4 kind (both-true _ _ h .0))
+    → Good (ask answer (refused question place) rest)
+unfolding refused
+ask-good answer question place rest h k = ask-keeps Small Near answer _ rest h k
 
 module _ (bytes : List ℕ) (s : State) (small : Small s) where
   here : s .progress .at < 2 ^ 32
@@ -214,7 +147,7 @@ module _ (bytes : List ℕ) (s : State) (small : Small s) where
     unfolding headerTurn
     header-good n z =
         ask-good _ _ _ _ here λ h.
-        let r = range-small (boundsAt bytes start) h in
+        let r = ranges (boundsAt bytes start) h in
         omega (arith, free-most (s .presets) 256)
 
     action-good : (size : ℕ) → next ≤ s .progress .at + 276 → Good (actionTurn bytes s start size next)
@@ -238,7 +171,7 @@ module _ (bytes : List ℕ) (s : State) (small : Small s) where
         let line = byteAt bytes start * (s .progress .index .bounds .last + 1) + byteAt bytes (start + 1) in
         let below : line < 256 = for-below _ _ _ _ _ w e (small .procedures) (small .last) in
         let fewer = free-fewer (s .presets) line (encode w) (omega arith) (eqb-true _ 0 h) (for-op _ _ _ _ _ w e) 256 below in
-        omega (arith, put-length (s .presets) line (encode w))
+        omega (arith, put-length (s .presets) (3 * line) (encode w))
 
     preset-good : next ≡ s .progress .at + 9 → Good (presetTurn bytes s start next)
     unfolding presetTurn
@@ -248,24 +181,17 @@ module _ (bytes : List ℕ) (s : State) (small : Small s) where
   unfolding closeTurn accepted
   close-good next n = ask-good _ _ _ _ (omega arith) (λ h. omega arith)
 
-  found-good : (f : Found) → recordAt bytes (s .progress .at) ≡ f → Good (onRecord bytes s f)
-  unfolding onRecord kindTurn refused
-  found-good Missing e = here
-  found-good (Record kind start size next) e =
-      let r = record-ends bytes (s .progress .at) kind start size next e in
-      ask-good _ _ _ _ here λ h.
-      ask-good _ _ _ _ here λ l.
-      kind-good kind size _ _ _ _ _ l
-      (λ k z. header-good start next (omega arith) (omega (arith, first-alone (s .progress .section) kind h k)))
-      (λ z. action-good start next size (omega arith))
-      (λ z. preset-good start next (omega arith))
-      (λ z. case-good start next (omega arith))
-      (λ z. close-good next (omega arith))
-
-  turn-good : Good (turnOf bytes s)
-  unfolding turnOf
-  turn-good = found-good (recordAt bytes (s .progress .at)) refl
+  kinds-good : Kinds Small Near bytes s
+  unfolding refused
+  kinds-good =
+      record {
+        refusal = λ question. here;
+        header = λ f. header-good _ _ refl (small .first (f .low));
+        action = λ size f e l m. action-good _ _ size (omega arith);
+        preset = λ f. preset-good _ _ refl;
+        case = λ f. case-good _ _ refl;
+        close = λ f. close-good _ refl;
+      }
 
 pub place-small : (bytes : List ℕ) → valueOf (readTask bytes .verdict) < 2 ^ 32
-unfolding readTask refused
-place-small bytes = loop-keeps Small Near (turnOf bytes) (left bytes) (refused WHOLE 0) (turn-good bytes) (omega arith) begin begin-small
+place-small bytes = reading-keeps Small Near bytes begin-small (kinds-good bytes)

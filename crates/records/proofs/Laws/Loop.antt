@@ -1,12 +1,25 @@
--- The law of a loop whose measure falls: it is one turn, and then the loop again. Any two numbers of turns above the measure give
--- the same answer, so what is left after a turn is still enough. And the law of a loop whose turns keep a property of the states:
--- what every answer from such a state has, the loop's answer has.
+-- A question in a turn, by its answer; a turn does not both stop and go on. The law of a loop whose measure falls: it is one turn, and then the loop again. Any two
+-- numbers of turns above the measure give the same answer, so what is left after a turn is still enough. And the law of a loop whose
+-- turns keep a property of the states: what every answer from such a state has, the loop's answer has.
 -- Assumes nothing.
 use Prim.Native.Nat.{ℕ, zero, suc, _<_}
 use mathlib.Core.Path.{_≡_, refl}
+use mathlib.Core.Bool.{Bool, true, false}
 use native.Mathlib.Nat.{not-suc-le-zero, le-refl}
 use native.Mathlib.Omega.{arith}
-use Rattle.records.specs.Loop.{Turn, stop, go, after, turns, loop}
+use Rattle.records.specs.Loop.{Turn, stop, go, ask, after, turns, loop}
+
+module _ {S A : Type 0} (answer : Bool) (refusal : A) (rest : Turn S A) where
+  pub ask-yes : answer ≡ true → rest ≡ ask answer refusal rest
+  unfolding ask
+  ask-yes h = rw h
+
+  pub ask-no : answer ≡ false → stop refusal ≡ ask answer refusal rest
+  unfolding ask
+  ask-no h = rw h
+
+pub stop-go : {S A : Type 0} {a : A} {s : S} → stop a ≡ go s → ⊥
+stop-go h = let z : _≡_ {A = ℕ} 0 1 = cc in omega arith
 
 after-same : {S A : Type 0} (u : Turn S A) (f g : S → A) → ((t : S) → u ≡ go t → f t ≡ g t) → after u f ≡ after u g
 unfolding after
@@ -30,6 +43,12 @@ module _ {S A : Type 0} (turn : S → Turn S A) (measure : S → ℕ) (short : A
 abbrev pub Keeps : {S A : Type 0} → (S → Type 0) → (A → Type 0) → Turn S A → Type 0
 Keeps P Q (stop a) = Q a
 Keeps P Q (go s) = P s
+
+pub ask-keeps : {S A : Type 0} (P : S → Type 0) (Q : A → Type 0) (answer : Bool) (refusal : A) (rest : Turn S A)
+    → Q refusal → (answer ≡ true → Keeps P Q rest) → Keeps P Q (ask answer refusal rest)
+unfolding ask
+ask-keeps P Q true refusal rest h k = k refl
+ask-keeps P Q false refusal rest h k = h
 
 after-keeps : {S A : Type 0} (P : S → Type 0) (Q : A → Type 0) (u : Turn S A) (f : S → A) → Keeps P Q u → ((t : S) → P t → Q (f t)) → Q (after u f)
 unfolding after

@@ -1,4 +1,5 @@
--- Sets below a number of facts by a shift, question 6 at one pair, and pairs past the end of a file.
+-- Sets below a number of facts by a shift, question 6 at one pair and at each pair of a row that passes it, and pairs past the end of a
+-- file.
 -- Assumes nothing.
 use Prim.Native.Nat.{ℕ, _+_, _*_, _/_, _^_, _≤_, _<_}
 use mathlib.Core.Path.{_≡_, sym, _∙_}
@@ -12,7 +13,8 @@ use lib.Dec.{eqb, ltb}
 use lib.Pow.{pow-pos, pow-mono}
 use borrow.Author.Tests.{lt-ltb, le-ltb, eq-eqb, ne-eqb}
 use Rattle.records.proofs.Laws.Numbers.{u64-missing}
-use Rattle.task.specs.Facts.{literalsAt, within, consistent, pairConsistent}
+use Rattle.task.proofs.Laws.First.{found-all}
+use Rattle.task.specs.Facts.{literalsAt, within, consistent, pairConsistent, pairsBeforeFault}
 use Rattle.task.specs.declared.facts.Literals.{Literals}
 
 pub within-all : (facts set : ℕ) → 64 ≤ facts → set < 2 ^ 64 → true ≡ within facts set
@@ -33,6 +35,11 @@ pub pair-test : (facts : ℕ) (bytes : List ℕ) (at k : ℕ) (l : Literals) (r 
     → pairConsistent facts bytes at k ≡ t
 unfolding pairConsistent
 pair-test facts bytes at k l r t e f g = rw (← e) (sym f ∙ g)
+
+pub pairs-consistent : (facts : ℕ) (bytes : List ℕ) (at count : ℕ) → pairsBeforeFault facts bytes at count ≡ count → (k : ℕ) → k < count
+    → (offset : ℕ) → offset ≡ at + 16 * k → consistent facts (literalsAt bytes offset) ≡ true
+unfolding pairsBeforeFault pairConsistent
+pairs-consistent facts bytes at count h k l offset e = rw e (found-all (pairConsistent facts bytes at) count h k l)
 
 pub literals-missing : (bytes : List ℕ) (at : ℕ) → length bytes < at → _≡_ {A = Literals} (record { positive = 0; negative = 0 }) (literalsAt bytes at)
 unfolding literalsAt

@@ -1,8 +1,8 @@
 -- The search for the first no, place by place: the test at a place says whether the search goes on or ends there. `Searching` is the
--- invariant of every loop that makes such a search.
+-- invariant of every loop that makes such a search. And a search that finds none comes to every place, so each of them passed.
 -- Assumes nothing.
-use Prim.Native.Nat.{ℕ, suc, _+_, _-_, _≤_, _<_}
-use mathlib.Core.Path.{_≡_, sym, _∙_}
+use Prim.Native.Nat.{ℕ, zero, suc, _+_, _-_, _≤_, _<_}
+use mathlib.Core.Path.{_≡_, refl, sym, _∙_}
 use mathlib.Core.Bool.{Bool, true, false}
 use native.Mathlib.Numerals.{add-one}
 use native.Mathlib.Omega.{arith}
@@ -38,3 +38,18 @@ module _ (test : ℕ → Bool) (count : ℕ) where
     found-none h =
         let e : count - k ≡ 0 = omega arith in
         sym (rw e) ∙ s .found
+
+-- a search that finds no place
+module _ (test : ℕ → Bool) (count : ℕ) (none : firstNo test count ≡ count) where
+  passed : (k : ℕ) → k < count → Searching test count k → (t : Bool) → test k ≡ t → test k ≡ true
+  passed k h s true e = e
+  passed k h s false e = absurd (omega (arith, found-no test count k s h e))
+
+  comes : (k : ℕ) → k ≤ count → Searching test count k
+  comes zero h = searching test count
+  comes (suc k) h =
+      let s = comes k (omega arith) in
+      rw add-one at (found-yes test count k s (omega arith) (passed k (omega arith) s (test k) refl))
+
+  pub found-all : (k : ℕ) → k < count → test k ≡ true
+  found-all k h = passed k h (comes k (omega arith)) (test k) refl

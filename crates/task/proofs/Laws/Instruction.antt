@@ -1,13 +1,14 @@
--- Decoding op by op, and that decoding and encoding are inverse to one another where the instruction is allowed.
+-- Decoding op by op, that what is decoded is allowed on its line, and that decoding and encoding are inverse to one another where the
+-- instruction is allowed.
 -- Assumes nothing.
-use Prim.Native.Nat.{ℕ, zero, suc, _+_, _≤_}
+use Prim.Native.Nat.{ℕ, zero, suc, _+_, _≤_, _<_}
 use mathlib.Core.List.{List}
-use lib.ListN.{length, set}
+use lib.ListN.{length, set, length-set}
 use lib.Seq.{set-out}
 use mathlib.Core.Path.{_≡_, refl, sym, ap, _∙_}
 use mathlib.Core.Bool.{Bool, true, false, true≢false, false≢true, _&&_}
-use lib.Dec.{eqb}
-use borrow.Author.Tests.{ne-eqb, eqb-true}
+use lib.Dec.{leb, ltb, eqb}
+use borrow.Author.Tests.{ltb-true, leb-true, ne-eqb, eqb-true}
 use native.Mathlib.Omega.{arith}
 use Rattle.records.proofs.Laws.Numbers.{byte-missing}
 use Rattle.records.proofs.Laws.Tests.{both-true}
@@ -22,6 +23,12 @@ use Rattle.task.specs.declared.instruction.Decoded.the-variants.{Is, Not
 
 apart : (w : Instruction) → Is w ≡ Nothing → ⊥
 apart w h = let z : _≡_ {A = ℕ} 0 1 = cc in omega arith
+
+-- an instruction that is kept: the condition holds
+pub keep-is : (t : Bool) (d : Decoded) (w : Instruction) → keep t d ≡ Is w → (t ≡ true) × (d ≡ Is w)
+unfolding keep
+keep-is true d w h = (refl, h)
+keep-is false d w h = absurd (apart w (sym h))
 
 pub keep-yes : (t : Bool) (d : Decoded) → t ≡ true → d ≡ keep t d
 unfolding keep
@@ -88,6 +95,44 @@ module _ (b : Bounds) (actions : ℕ) (line : Line) where
           ne-eqb (w .op) 4 (omega arith),
         )
 
+  -- what is asked of an instruction on a line, in words
+  abbrev pub Allowed : Instruction → Type 0
+  Allowed Empty = line .0 ≤ b .last
+  Allowed (Act action) = (line .0 < b .last) × (action < actions)
+  Allowed (Goto target fact) = (line .0 < b .last) × (target .0 ≤ b .last) × (fact < b .facts)
+  Allowed (Call procedure) = (line .0 < b .last) × (procedure .0 < b .procedures)
+  Allowed End = (1 ≤ line .0) × (line .0 ≤ b .last)
+
+  pub allows : (w : Instruction) → allowed b actions line w ≡ true → Allowed w
+  unfolding allowed
+  allows Empty h = leb-true (line .0) (b .last) h
+  allows (Act action) h =
+      let k = both-true (ltb (line .0) (b .last)) _ h in
+      (ltb-true (line .0) (b .last) (k .0), ltb-true action actions (k .1))
+  allows (Goto target fact) h =
+      let k = both-true (ltb (line .0) (b .last) && leb (target .0) (b .last)) _ h in
+      let l = both-true (ltb (line .0) (b .last)) _ (k .0) in
+      (ltb-true (line .0) (b .last) (l .0), leb-true (target .0) (b .last) (l .1), ltb-true fact (b .facts) (k .1))
+  allows (Call procedure) h =
+      let k = both-true (ltb (line .0) (b .last)) _ h in
+      (ltb-true (line .0) (b .last) (k .0), ltb-true (procedure .0) (b .procedures) (k .1))
+  allows End h =
+      let k = both-true (leb 1 (line .0)) _ h in
+      (leb-true 1 (line .0) (k .0), leb-true (line .0) (b .last) (k .1))
+
+  where-allowed : (d : Decoded) (w : Instruction) → whereAllowed b actions line d ≡ Is w → allowed b actions line w ≡ true
+  unfolding whereAllowed
+  where-allowed (Is v) w h =
+      let k = keep-is (allowed b actions line v) (Is v) w h in
+      let e : v ≡ w = cc (k .1) in
+      rw e at (k .0)
+  where-allowed Nothing w h = absurd (apart w (sym h))
+
+  -- an instruction that was decoded on a line is allowed there
+  pub decode-allowed : (t : Triple) (w : Instruction) → decode b actions line t ≡ Is w → allowed b actions line w ≡ true
+  unfolding decode
+  decode-allowed t w h = where-allowed (spelled t) w h
+
   pub decode-encode : (w : Instruction) → allowed b actions line w ≡ true → decode b actions line (encode w) ≡ Is w
   unfolding decode spelled whereAllowed encode keep
   decode-encode Empty h = simp h
@@ -100,10 +145,10 @@ triple-is : (t : Triple) {op p q : ℕ} → op ≡ t .op → p ≡ t .p → q �
 triple-is t e f g = λ i. record { op = e i; p = f i; q = g i }
 
 keep-inverse : (t u : Bool) (v w : Instruction) → Is w ≡ keep t (keep u (Is v)) → (t ≡ true) × (v ≡ w)
-unfolding keep
-keep-inverse true true v w h = (refl, cc)
-keep-inverse true false v w h = absurd (apart w h)
-keep-inverse false u v w h = absurd (apart w h)
+keep-inverse t u v w h =
+    let k = keep-is t _ w (sym h) in
+    let e = keep-is u (Is v) w (k .1) .1 in
+    (k .0, cc)
 
 module _ (b : Bounds) (actions : ℕ) (line : Line) (t : Triple) (w : Instruction) (h : decode b actions line t ≡ Is w) where
   spelled-by : (zeros ok : Bool) (v : Instruction) → keep zeros (keep ok (Is v)) ≡ decode b actions line t → (zeros ≡ true) × (v ≡ w)
@@ -145,6 +190,10 @@ put-missing bytes at w h =
     let f : set bytes (at + 1) (w .p) ≡ bytes = set-out bytes (at + 1) (w .p) (omega arith) in
     let g : set bytes (at + 2) (w .q) ≡ bytes = set-out bytes (at + 2) (w .q) (omega arith) in
     cc
+
+pub put-length : (bytes : List ℕ) (at : ℕ) (w : Triple) → length (withTriple bytes at w) ≡ length bytes
+unfolding withTriple
+put-length bytes at w = simp length-set
 
 pub put-three : (bytes first second third : List ℕ) (at : ℕ) (w : Triple) → first ≡ set bytes at (w .op) → second ≡ set first (at + 1) (w .p)
     → third ≡ set second (at + 2) (w .q) → third ≡ withTriple bytes at w

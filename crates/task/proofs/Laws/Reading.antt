@@ -8,11 +8,12 @@ use native.Mathlib.Omega.{arith}
 use lib.ListN.{length, set}
 use lib.Dec.{eqb, ltb}
 use borrow.Author.Tests.{lt-ltb, le-ltb, eq-eqb, ne-eqb, eqb-true}
-use Rattle.records.specs.Loop.{Turn, stop}
+use Rattle.records.specs.Loop.{Turn}
 use Rattle.records.specs.Numbers.{byteAt, u64At}
 use Rattle.records.specs.Record.{recordAt}
 use Rattle.records.specs.declared.record.Found.{Found}
 use Rattle.records.specs.declared.record.Found.the-variants.{Record, Missing}
+use Rattle.records.proofs.Laws.Loop.{ask-yes, ask-no}
 use Rattle.records.proofs.Laws.Record.{record-ends}
 use Rattle.task.specs.Bounds.{boundsAt, inRange}
 use Rattle.task.specs.Facts.{literalsAt, within, consistent, pairsBeforeFault}
@@ -20,7 +21,7 @@ use Rattle.task.specs.Instruction.{decodeFor, encode, tripleAt, withTrip
 use Rattle.task.specs.Program.{lineOffset}
 use Rattle.task.specs.Outcome.{state, turned}
 use Rattle.task.specs.Questions.{WHOLE, KIND, LENGTH, COUNT, BOUNDS, SETS, PRESET, REPEATED, CLOSED}
-use Rattle.task.specs.Reading.{State, ask, refused, mayStand, byKind, lengthFits, headerTurn, actionTurn, onPreset, presetTurn, caseTurn, closeTurn, kindTurn, onRecord, turnOf}
+use Rattle.task.specs.Reading.{State, mayStand, byKind, lengthFits, headerTurn, actionTurn, onPreset, presetTurn, caseTurn, closeTurn, kindTurn, onRecord, turnOf}
 use Rattle.task.specs.declared.bounds.Bounds.{Bounds}
 use Rattle.task.specs.declared.facts.Literals.{Literals}
 use Rattle.task.specs.declared.instruction.Triple.{Triple}
@@ -31,15 +32,6 @@ use Rattle.task.specs.declared.reading.Outcome.the-variants.{Next, Refus
 use Rattle.task.specs.declared.reading.Progress.{Progress}
 use Rattle.task.specs.declared.reading.Reading.{Reading}
 use Rattle.task.specs.declared.reading.Section.the-variants.{Header, Actions, Presets, Cases}
-
-module _ (answer : Bool) (question place : ℕ) (rest : Turn State Reading) where
-  ask-yes : answer ≡ true → rest ≡ ask answer question place rest
-  unfolding ask
-  ask-yes h = rw h
-
-  ask-no : answer ≡ false → stop (refused question place) ≡ ask answer question place rest
-  unfolding ask
-  ask-no h = rw h
 
 module _ {A : Type 0} (kind : ℕ) (header action preset case close : A) where
   pub by-header : kind ≡ 1 → header ≡ byKind kind header action preset case close
@@ -66,17 +58,17 @@ module _ (bytes : List ℕ) (p : Progress) (body next : ℕ) (o q : List ℕ) wh
   module _ (b : Bounds) (r : Bool) (e : b ≡ boundsAt bytes body) (f : r ≡ inRange b) where
     pub header-no : r ≡ false → turned (p .index) (Refused BOUNDS (p .at)) o q ≡ headerTurn bytes (state p o q) body next
     unfolding turned headerTurn
-    header-no h = ask-no _ _ _ _ (cc)
+    header-no h = ask-no _ _ _ (cc)
 
     pub header-yes : r ≡ true
         → turned (p .index) (Next (record { at = next; section = Header; index = record { bounds = b; actions = 0; cases = 0; first = 0 } })) o q
         ≡ headerTurn bytes (state p o q) body next
     unfolding turned headerTurn
-    header-yes h = rw e (ask-yes _ _ _ _ (cc))
+    header-yes h = rw e (ask-yes _ _ _ (cc))
 
   pub action-full : (size : ℕ) → 64 ≤ p .index .actions → turned (p .index) (Refused COUNT (p .at)) o q ≡ actionTurn bytes (state p o q) body size next
   unfolding turned actionTurn
-  action-full size h = ask-no _ _ _ _ (le-ltb (p .index .actions) 64 h)
+  action-full size h = ask-no _ _ _ (le-ltb (p .index .actions) 64 h)
 
   module _ (size pairs : ℕ) (h : p .index .actions < 64) (e : pairs ≡ pairsBeforeFault (p .index .bounds .facts) bytes body (size / 16)) where
     counted : ltb (p .index .actions) 64 ≡ true
@@ -84,7 +76,7 @@ module _ (bytes : List ℕ) (p : Progress) (body next : ℕ) (o q : List ℕ) wh
 
     pub action-no : (pairs ≡ size / 16 → ⊥) → turned (p .index) (Refused SETS (p .at)) o q ≡ actionTurn bytes (state p o q) body size next
     unfolding turned actionTurn
-    action-no n = ask-no _ _ _ _ (rw (← e) (ne-eqb pairs (size / 16) n)) ∙ ask-yes _ _ _ _ counted
+    action-no n = ask-no _ _ _ (rw (← e) (ne-eqb pairs (size / 16) n)) ∙ ask-yes _ _ _ counted
 
     pub action-yes : pairs ≡ size / 16
         → turned (p .index)
@@ -92,7 +84,7 @@ module _ (bytes : List ℕ) (p : Progress) (body next : ℕ) (o q : List ℕ) wh
         (set o (p .index .actions) (p .at)) q
         ≡ actionTurn bytes (state p o q) body size next
     unfolding turned actionTurn
-    action-yes y = ask-yes _ _ _ _ (rw (← e) (eq-eqb pairs (size / 16) y)) ∙ ask-yes _ _ _ _ counted
+    action-yes y = ask-yes _ _ _ (rw (← e) (eq-eqb pairs (size / 16) y)) ∙ ask-yes _ _ _ counted
 
   module _ (procedure line : ℕ) (t : Triple) (d : Decoded)
       (e₁ : procedure ≡ byteAt bytes body) (e₂ : line ≡ byteAt bytes (body + 1)) (e₃ : t ≡ tripleAt bytes (body + 2))
@@ -112,16 +104,16 @@ module _ (bytes : List ℕ) (p : Progress) (body next : ℕ) (o q : List ℕ) wh
 
       pub preset-again : (byte ≡ 0 → ⊥) → turned (p .index) (Refused REPEATED (p .at)) o q ≡ presetTurn bytes (state p o q) body next
       unfolding turned onPreset
-      preset-again n = ask-no _ _ _ _ (rw (← here) (ne-eqb byte 0 n)) ∙ rw a at on-preset
+      preset-again n = ask-no _ _ _ (rw (← here) (ne-eqb byte 0 n)) ∙ rw a at on-preset
 
       pub preset-yes : (q′ : List ℕ) → q′ ≡ withTriple q offset (encode w) → byte ≡ 0
           → turned (p .index) (Next (record { at = next; section = Presets; index = p .index })) o q′ ≡ presetTurn bytes (state p o q) body next
       unfolding turned onPreset
-      preset-yes q′ h z = rw (h, f, e₁, e₂) (ask-yes _ _ _ _ (rw (← here) (eq-eqb byte 0 z)) ∙ rw a at on-preset)
+      preset-yes q′ h z = rw (h, f, e₁, e₂) (ask-yes _ _ _ (rw (← here) (eq-eqb byte 0 z)) ∙ rw a at on-preset)
 
   pub case-full : 32 ≤ p .index .cases → turned (p .index) (Refused COUNT (p .at)) o q ≡ caseTurn bytes (state p o q) body next
   unfolding turned caseTurn
-  case-full h = ask-no _ _ _ _ (le-ltb (p .index .cases) 32 h)
+  case-full h = ask-no _ _ _ (le-ltb (p .index .cases) 32 h)
 
   module _ (h : p .index .cases < 32) (set : ℕ) (goal : Literals) (i c : Bool) (e₁ : set ≡ u64At bytes body) (e₂ : goal ≡ literalsAt bytes (body + 8))
       (e₃ : i ≡ within (p .index .bounds .facts) set) (e₄ : c ≡ consistent (p .index .bounds .facts) goal) where
@@ -130,7 +122,7 @@ module _ (bytes : List ℕ) (p : Progress) (body next : ℕ) (o q : List ℕ) wh
 
     pub case-no : (i && c) ≡ false → turned (p .index) (Refused SETS (p .at)) o q ≡ caseTurn bytes (state p o q) body next
     unfolding turned caseTurn
-    case-no n = ask-no _ _ _ _ (cc) ∙ ask-yes _ _ _ _ few
+    case-no n = ask-no _ _ _ (cc) ∙ ask-yes _ _ _ few
 
     pub case-yes : (first : ℕ) → first ≡ cond (eqb (p .index .cases) 0) (p .at) (p .index .first) → (i && c) ≡ true
         → turned (p .index)
@@ -138,7 +130,7 @@ module _ (bytes : List ℕ) (p : Progress) (body next : ℕ) (o q : List ℕ) wh
         o q
         ≡ caseTurn bytes (state p o q) body next
     unfolding turned caseTurn
-    case-yes first f y = rw f (ask-yes _ _ _ _ (cc) ∙ ask-yes _ _ _ _ few)
+    case-yes first f y = rw f (ask-yes _ _ _ (cc) ∙ ask-yes _ _ _ few)
 
 -- a body in the file, of the length that question 3 asks of its kind
 module _ (kind body size end : ℕ) (there : body + size ≤ end) (fit : lengthFits kind size ≡ true) where
@@ -177,25 +169,25 @@ module _ (bytes : List ℕ) (p : Progress) (o q : List ℕ) (f : Found) (e : f �
     module _ (m : Bool) (g : m ≡ mayStand (p .section) kind) where
       pub kind-no : m ≡ false → turned (p .index) (Refused KIND (p .at)) o q ≡ turnOf bytes (state p o q)
       unfolding turned onRecord
-      kind-no h = ask-no _ _ _ _ (sym g ∙ h) ∙ on-record
+      kind-no h = ask-no _ _ _ (sym g ∙ h) ∙ on-record
 
       module _ (y : m ≡ true) (l : Bool) (k : l ≡ lengthFits kind size) where
         pub length-no : l ≡ false → turned (p .index) (Refused LENGTH (p .at)) o q ≡ turnOf bytes (state p o q)
         unfolding turned onRecord
-        length-no h = ask-no _ _ _ _ (sym k ∙ h) ∙ ask-yes _ _ _ _ (sym g ∙ y) ∙ on-record
+        length-no h = ask-no _ _ _ (sym k ∙ h) ∙ ask-yes _ _ _ (sym g ∙ y) ∙ on-record
 
         -- past questions 1 to 3 the turn is what the kind asks
         pub kind-turn : l ≡ true → (t : Turn State Reading)
             → t ≡ kindTurn bytes (state p o q) kind body size next
             → t ≡ turnOf bytes (state p o q)
         unfolding onRecord
-        kind-turn h t d = d ∙ ask-yes _ _ _ _ (sym k ∙ h) ∙ ask-yes _ _ _ _ (sym g ∙ y) ∙ on-record
+        kind-turn h t d = d ∙ ask-yes _ _ _ (sym k ∙ h) ∙ ask-yes _ _ _ (sym g ∙ y) ∙ on-record
 
 module _ (bytes : List ℕ) (p : Progress) (next : ℕ) (o q : List ℕ) where
   pub close-no : (next ≡ length bytes → ⊥) → turned (p .index) (Refused CLOSED next) o q ≡ closeTurn bytes (state p o q) next
   unfolding turned closeTurn
-  close-no h = ask-no _ _ _ _ (ne-eqb next (length bytes) h)
+  close-no h = ask-no _ _ _ (ne-eqb next (length bytes) h)
 
   pub close-yes : next ≡ length bytes → turned (p .index) Closed o q ≡ closeTurn bytes (state p o q) next
   unfolding turned closeTurn
-  close-yes h = ask-yes _ _ _ _ (eq-eqb next (length bytes) h)
+  close-yes h = ask-yes _ _ _ (eq-eqb next (length bytes) h)

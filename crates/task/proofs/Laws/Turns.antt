@@ -8,15 +8,15 @@ use mathlib.Core.List.{List}
 use native.Mathlib.Omega.{arith}
 use lib.ListN.{length}
 use lib.Dec.{eqb}
-use Rattle.records.specs.Loop.{Turn, stop, go, after, loop}
+use Rattle.records.specs.Loop.{Turn, stop, go, ask, after, loop}
 use Rattle.records.specs.Record.{recordAt}
 use Rattle.records.specs.declared.record.Found.{Found}
 use Rattle.records.specs.declared.record.Found.the-variants.{Record, Missing}
-use Rattle.records.proofs.Laws.Loop.{unroll}
+use Rattle.records.proofs.Laws.Loop.{stop-go, unroll}
 use Rattle.records.proofs.Laws.Record.{record-ends}
 use Rattle.task.specs.Outcome.{state, turned}
 use Rattle.task.specs.Questions.{WHOLE}
-use Rattle.task.specs.Reading.{State, begin, refused, accepted, ask, byKind, headerTurn, actionTurn, onPreset, presetTurn, caseTurn, closeTurn, kindTurn, onRecord, turnOf, left, readTask}
+use Rattle.task.specs.Reading.{State, begin, refused, accepted, byKind, headerTurn, actionTurn, onPreset, presetTurn, caseTurn, closeTurn, kindTurn, onRecord, turnOf, left, readTask}
 use Rattle.task.specs.declared.index.Index.{Index}
 use Rattle.task.specs.declared.instruction.Decoded.{Decoded}
 use Rattle.task.specs.declared.instruction.Decoded.the-variants.{Is, Nothing}
@@ -35,10 +35,10 @@ stop-goes next r t e = cc
 go-goes : (s : State) → Goes (s .progress .at) (go s)
 go-goes s t e = cc
 
-ask-goes : (next : ℕ) (answer : Bool) (question place : ℕ) (rest : Turn State Reading) → Goes next rest → Goes next (ask answer question place rest)
+ask-goes : (next : ℕ) (answer : Bool) (refusal : Reading) (rest : Turn State Reading) → Goes next rest → Goes next (ask answer refusal rest)
 unfolding ask
-ask-goes next true question place rest h = h
-ask-goes next false question place rest h = stop-goes next (refused question place)
+ask-goes next true refusal rest h = h
+ask-goes next false refusal rest h = stop-goes next refusal
 
 cond-goes : (next : ℕ) (b : Bool) (x y : Turn State Reading) → Goes next x → Goes next y → Goes next (cond b x y)
 cond-goes next true x y h k = h
@@ -54,16 +54,16 @@ kind-goes next kind header action preset case close h₁ h₂ h₃ h₄ h₅ =
 module _ (bytes : List ℕ) (s : State) where
   header-goes : (body next : ℕ) → Goes next (headerTurn bytes s body next)
   unfolding headerTurn
-  header-goes body next = ask-goes _ _ _ _ _ (go-goes _)
+  header-goes body next = ask-goes _ _ _ _ (go-goes _)
 
   action-goes : (body size next : ℕ) → Goes next (actionTurn bytes s body size next)
   unfolding actionTurn
-  action-goes body size next = ask-goes _ _ _ _ _ (ask-goes _ _ _ _ _ (go-goes _))
+  action-goes body size next = ask-goes _ _ _ _ (ask-goes _ _ _ _ (go-goes _))
 
   on-preset-goes : (body next : ℕ) (d : Decoded) → Goes next (onPreset bytes s body next d)
   unfolding onPreset
   on-preset-goes body next Nothing = stop-goes next _
-  on-preset-goes body next (Is w) = ask-goes _ _ _ _ _ (go-goes _)
+  on-preset-goes body next (Is w) = ask-goes _ _ _ _ (go-goes _)
 
   preset-goes : (body next : ℕ) → Goes next (presetTurn bytes s body next)
   unfolding presetTurn
@@ -71,22 +71,22 @@ module _ (bytes : List ℕ) (s : State) where
 
   case-goes : (body next : ℕ) → Goes next (caseTurn bytes s body next)
   unfolding caseTurn
-  case-goes body next = ask-goes _ _ _ _ _ (ask-goes _ _ _ _ _ (go-goes _))
+  case-goes body next = ask-goes _ _ _ _ (ask-goes _ _ _ _ (go-goes _))
 
   close-goes : (next : ℕ) → Goes next (closeTurn bytes s next)
   unfolding closeTurn
-  close-goes next = ask-goes _ _ _ _ _ (stop-goes next _)
+  close-goes next = ask-goes _ _ _ _ (stop-goes next _)
 
   record-goes : (kind body size next : ℕ) → Goes next (onRecord bytes s (Record kind body size next))
   unfolding onRecord kindTurn
   record-goes kind body size next =
-      ask-goes _ _ _ _ _
-      (ask-goes _ _ _ _ _
+      ask-goes _ _ _ _
+      (ask-goes _ _ _ _
       (kind-goes _ _ _ _ _ _ _ (header-goes body next) (action-goes body size next) (preset-goes body next) (case-goes body next) (close-goes next)))
 
   found-falls : (f : Found) → recordAt bytes (s .progress .at) ≡ f → (t : State) → onRecord bytes s f ≡ go t → left bytes t < left bytes s
   unfolding onRecord
-  found-falls Missing e t h = let z : _≡_ {A = ℕ} 0 1 = cc in absurd (omega arith)
+  found-falls Missing e t h = absurd (stop-go h)
   found-falls (Record kind body size next) e t h =
       omega (arith, record-ends bytes (s .progress .at) kind body size next e, record-goes kind body size next t h)
 

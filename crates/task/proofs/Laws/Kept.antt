@@ -1,0 +1,119 @@
+-- What each turn of a task's reading keeps, its answer has. The property is to be shown of each kind's turn alone, with what questions 1 to
+-- 3 say of a record of this kind: after which sections it may stand, where its body and the next record begin, and how long it is. For
+-- question 3's test and the turn are chosen by the same kind.
+-- Assumes nothing.
+use Prim.Native.Nat.{ℕ, _+_, _%_, _≤_}
+use mathlib.Core.Path.{_≡_, refl}
+use mathlib.Core.Bool.{Bool, true, false, cond}
+use mathlib.Core.List.{List}
+use native.Mathlib.Omega.{arith}
+use lib.Dec.{leb, eqb}
+use borrow.Author.Tests.{leb-true, eqb-true, eqb-false}
+use Rattle.records.specs.Loop.{Turn}
+use Rattle.records.specs.Numbers.{u16At}
+use Rattle.records.specs.Record.{recordAt}
+use Rattle.records.specs.declared.record.Found.{Found}
+use Rattle.records.specs.declared.record.Found.the-variants.{Record, Missing}
+use Rattle.records.proofs.Laws.Loop.{Keeps, ask-keeps, loop-keeps}
+use Rattle.records.proofs.Laws.Record.{record-ends}
+use Rattle.records.proofs.Laws.Tests.{both-true}
+use Rattle.task.proofs.Laws.Bounds.{between-true}
+use Rattle.task.specs.Questions.{WHOLE, KIND, LENGTH}
+use Rattle.task.specs.Reading.{State, begin, refused, mayStand, byKind, lengthFits, headerTurn, actionTurn, presetTurn, caseTurn, closeTurn, kindTurn, onRecord, turnOf, left, readTask}
+use Rattle.task.specs.declared.reading.Reading.{Reading}
+use Rattle.task.specs.declared.reading.Section.{Section}
+use Rattle.task.specs.declared.reading.Section.the-variants.{Start, Header, Actions, Presets, Cases}
+
+-- the least and the greatest kind that may stand after a section
+abbrev pub least : Section → ℕ
+least Start = 1
+least Header = 2
+least Actions = 2
+least Presets = 3
+least Cases = 4
+
+abbrev pub greatest : Section → ℕ
+greatest Start = 1
+greatest Header = 2
+greatest Actions = 4
+greatest Presets = 4
+greatest Cases = 5
+
+-- a kind that may stand after a section
+pub record Follows (section : Section) (kind : ℕ) : Type 0 where
+  pub known : (1 ≤ kind) × (kind ≤ 5)
+  pub low : least section ≤ kind
+  pub high : kind ≤ greatest section
+
+pub follows : (section : Section) (kind : ℕ) → mayStand section kind ≡ true → Follows section kind
+unfolding mayStand
+follows Start kind h = omega (arith, eqb-true kind 1 h)
+follows Header kind h = omega (arith, eqb-true kind 2 h)
+follows Actions kind h = omega (arith, between-true 2 kind 4 h)
+follows Presets kind h = omega (arith, between-true 3 kind 4 h)
+follows Cases kind h = omega (arith, between-true 4 kind 5 h)
+
+-- what is to be shown of a state: of a refusal at its offset, and of the turn of each kind that may stand there, its record as long as
+-- question 3 asks
+pub record Kinds (P : State → Type 0) (Q : Reading → Type 0) (bytes : List ℕ) (s : State) : Type 0 where
+  pub refusal : (question : ℕ) → Q (refused question (s .progress .at))
+  pub header : Follows (s .progress .section) 1 → Keeps P Q (headerTurn bytes s (s .progress .at + 4) (s .progress .at + 10))
+  pub action : (size : ℕ) → Follows (s .progress .section) 2 → size ≡ u16At bytes (s .progress .at) → size ≤ 272 → size % 32 ≡ 16
+      → Keeps P Q (actionTurn bytes s (s .progress .at + 4) size (s .progress .at + (4 + size)))
+  pub preset : Follows (s .progress .section) 3 → Keeps P Q (presetTurn bytes s (s .progress .at + 4) (s .progress .at + 9))
+  pub case : Follows (s .progress .section) 4 → Keeps P Q (caseTurn bytes s (s .progress .at + 4) (s .progress .at + 28))
+  pub close : Follows (s .progress .section) 5 → Keeps P Q (closeTurn bytes s (s .progress .at + 4))
+
+module _ (P : State → Type 0) (Q : Reading → Type 0) where
+  -- a turn and its question 3, chosen by one test
+  fork-keeps : (b c d : Bool) (x y : Turn State Reading) → cond b c d ≡ true → (b ≡ true → c ≡ true → Keeps P Q x)
+      → (b ≡ false → d ≡ true → Keeps P Q y) → Keeps P Q (cond b x y)
+  fork-keeps true c d x y h k l = k refl h
+  fork-keeps false c d x y h k l = l refl h
+
+  -- what each kind asks, its length as question 3 has it
+  kind-keeps : (kind size : ℕ) (header action preset case close : Turn State Reading) → (1 ≤ kind) × (kind ≤ 5) → lengthFits kind size ≡ true
+      → (kind ≡ 1 → size ≡ 6 → Keeps P Q header) → (kind ≡ 2 → size ≤ 272 → size % 32 ≡ 16 → Keeps P Q action)
+      → (kind ≡ 3 → size ≡ 5 → Keeps P Q preset) → (kind ≡ 4 → size ≡ 24 → Keeps P Q case) → (kind ≡ 5 → size ≡ 0 → Keeps P Q close)
+      → Keeps P Q (byKind kind header action preset case close)
+  unfolding lengthFits byKind
+  kind-keeps kind size header action preset case close r h h₁ h₂ h₃ h₄ h₅ =
+      fork-keeps (eqb kind 1) _ _ header _ h (λ e f. h₁ (eqb-true kind 1 e) (eqb-true size 6 f))
+      λ n₁ l₁. fork-keeps (eqb kind 2) _ _ action _ l₁
+      (λ e f. let t = both-true (leb size 272) _ f in h₂ (eqb-true kind 2 e) (leb-true size 272 (t .0)) (eqb-true (size % 32) 16 (t .1)))
+      λ n₂ l₂. fork-keeps (eqb kind 3) _ _ preset _ l₂ (λ e f. h₃ (eqb-true kind 3 e) (eqb-true size 5 f))
+      λ n₃ l₃. fork-keeps (eqb kind 4) _ _ case close l₃ (λ e f. h₄ (eqb-true kind 4 e) (eqb-true size 24 f))
+      λ n₄ l₄. h₅ (omega (arith, eqb-false kind 1 n₁, eqb-false kind 2 n₂, eqb-false kind 3 n₃, eqb-false kind 4 n₄)) (eqb-true size 0 l₄)
+
+  module _ (bytes : List ℕ) where
+    -- the record that the kind's turn reads: its body begins after its head, and the next record where the body ends
+    record-keeps : (s : State) → Kinds P Q bytes s → (kind body size next : ℕ) → recordAt bytes (s .progress .at) ≡ Record kind body size next
+        → Follows (s .progress .section) kind → lengthFits kind size ≡ true → Keeps P Q (kindTurn bytes s kind body size next)
+    unfolding kindTurn
+    record-keeps s k kind body size next e f l =
+        let r = record-ends bytes (s .progress .at) kind body size next e in
+        let b : body ≡ s .progress .at + 4 = r .0 in
+        let n : (m : ℕ) → size ≡ m → next ≡ s .progress .at + (4 + m) = omega arith in
+        kind-keeps kind size _ _ _ _ _ (f .known) l
+        (λ i z. rw (b, n 6 z) (k .header (rw i at f)))
+        (λ i z m. rw (b, n size refl) (k .action size (rw i at f) (r .3) z m))
+        (λ i z. rw (b, n 5 z) (k .preset (rw i at f)))
+        (λ i z. rw (b, n 24 z) (k .case (rw i at f)))
+        (λ i z. rw (n 0 z) (k .close (rw i at f)))
+
+    found-keeps : (s : State) → Kinds P Q bytes s → (f : Found) → recordAt bytes (s .progress .at) ≡ f → Keeps P Q (onRecord bytes s f)
+    unfolding onRecord
+    found-keeps s k Missing e = k .refusal WHOLE
+    found-keeps s k (Record kind body size next) e =
+        ask-keeps P Q _ _ _ (k .refusal KIND) λ h.
+        ask-keeps P Q _ _ _ (k .refusal LENGTH) λ l.
+        record-keeps s k kind body size next e (follows (s .progress .section) kind h) l
+
+    turn-keeps : (s : State) → Kinds P Q bytes s → Keeps P Q (turnOf bytes s)
+    unfolding turnOf
+    turn-keeps s k = found-keeps s k (recordAt bytes (s .progress .at)) refl
+
+    pub reading-keeps : P begin → ((s : State) → P s → Kinds P Q bytes s) → Q (readTask bytes)
+    unfolding readTask begin
+    reading-keeps p k =
+        loop-keeps P Q (turnOf bytes) (left bytes) (refused WHOLE 0) (λ s h. turn-keeps s (k s h)) (k begin p .refusal WHOLE) begin p

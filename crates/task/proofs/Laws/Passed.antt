@@ -1,0 +1,235 @@
+-- What holds of a task that passes: its bounds are in range, its counts are what question 4 admits, with at least one case, and the pairs
+-- and sets of its actions and cases, read where the task says that they stand, pass question 6. A turn that goes on has asked this of its
+-- record, so every state has it of what was read so far; and only the closing record, which follows a case, ends with a task that passes.
+-- Assumes nothing.
+use Prim.Native.Nat.{ℕ, _+_, _*_, _/_, _%_, _≤_, _<_}
+use mathlib.Core.Path.{_≡_}
+use mathlib.Core.Bool.{Bool, true, cond, _&&_}
+use mathlib.Core.List.{List}
+use native.Mathlib.Decide.{ℕ-discrete}
+use native.Mathlib.Omega.{arith}
+use lib.ListN.{length, set, getD, length-set, length-replicate}
+use lib.Seq.{getD-set-same, getD-set-other}
+use lib.Dec.{eqb}
+use borrow.Author.Tests.{ltb-true, eqb-true, eq-eqb, ne-eqb}
+use Rattle.records.specs.Loop.{Turn, ask}
+use Rattle.records.specs.Numbers.{byteAt, u16At, u64At}
+use Rattle.records.proofs.Laws.Loop.{Keeps, ask-keeps}
+use Rattle.records.proofs.Laws.Tests.{both-true}
+use Rattle.task.proofs.Laws.Facts.{pairs-consistent}
+use Rattle.task.proofs.Laws.Instruction.{put-length}
+use Rattle.task.proofs.Laws.Kept.{least, greatest, Follows, Kinds, reading-keeps}
+use Rattle.task.specs.Bounds.{inRange}
+use Rattle.task.specs.Facts.{literalsAt, within, consistent, pairsBeforeFault}
+use Rattle.task.specs.Index.{actionAt, effectAt, caseAt}
+use Rattle.task.specs.Instruction.{encode}
+use Rattle.task.specs.Program.{lineOffset}
+use Rattle.task.specs.Reading.{State, noIndex, noTask, begin, refused, accepted, headerTurn, actionTurn, onPreset, presetTurn, caseTurn, closeTurn, readTask}
+use Rattle.task.specs.declared.index.Task.{Task}
+use Rattle.task.specs.declared.instruction.Decoded.{Decoded}
+use Rattle.task.specs.declared.instruction.Decoded.the-variants.{Is, Nothing}
+use Rattle.task.specs.declared.reading.Reading.{Reading}
+use Rattle.task.specs.declared.verdict.Verdict.the-variants.{Accepted}
+
+-- an action whose pairs pass question 6: its precondition, and the condition and the effect of each of its effects
+pub record ActionSound (facts : ℕ) (bytes : List ℕ) (at : ℕ) : Type 0 where
+  pub precondition : consistent facts (actionAt bytes at .precondition) ≡ true
+  pub condition : (e : ℕ) → e < actionAt bytes at .effects → consistent facts (effectAt bytes at e .condition) ≡ true
+  pub effect : (e : ℕ) → e < actionAt bytes at .effects
+      → consistent facts (record { positive = effectAt bytes at e .raised; negative = effectAt bytes at e .lowered }) ≡ true
+
+-- a case whose start and goal pass question 6
+abbrev pub CaseSound : ℕ → List ℕ → ℕ → ℕ → Type 0
+CaseSound facts bytes first c = (within facts (caseAt bytes first c .start) ≡ true) × (consistent facts (caseAt bytes first c .goal) ≡ true)
+
+-- a task that passes
+pub record Passed (bytes : List ℕ) (t : Task) : Type 0 where
+  pub bounded : inRange (t .index .bounds) ≡ true
+  pub actions : t .index .actions ≤ 64
+  pub cases : (1 ≤ t .index .cases) × (t .index .cases ≤ 32)
+  pub offsets : length (t .offsets) ≡ 64
+  pub presets : length (t .presets) ≡ 768
+  pub action : (a : ℕ) → a < t .index .actions → ActionSound (t .index .bounds .facts) bytes (getD (t .offsets) a 0)
+  pub case : (c : ℕ) → c < t .index .cases → CaseSound (t .index .bounds .facts) bytes (t .index .first) c
+
+-- an action of 16 + 32 * e bytes has 1 + 2 * e pairs
+action-sound : (facts : ℕ) (bytes : List ℕ) (at size : ℕ) → size ≡ u16At bytes at → size % 32 ≡ 16
+    → pairsBeforeFault facts bytes (at + 4) (size / 16) ≡ size / 16 → ActionSound facts bytes at
+unfolding actionAt effectAt literalsAt
+action-sound facts bytes at size e m h =
+    let pair = pairs-consistent facts bytes (at + 4) (size / 16) h in
+    record {
+      precondition = pair 0 (omega arith) (at + 4) (omega arith);
+      condition = λ n l. pair (1 + 2 * n) (omega arith) (at + (20 + 32 * n)) (omega arith);
+      effect =
+          λ n l.
+          let f : at + (44 + 32 * n) ≡ at + (36 + 32 * n) + 8 = omega arith in
+          rw f (pair (2 + 2 * n) (omega arith) (at + (36 + 32 * n)) (omega arith));
+    }
+
+case-sound : (facts : ℕ) (bytes : List ℕ) (at first c : ℕ) → at ≡ first + 28 * c
+    → (within facts (u64At bytes (at + 4)) && consistent facts (literalsAt bytes (at + 4 + 8))) ≡ true → CaseSound facts bytes first c
+unfolding caseAt
+case-sound facts bytes at first c e h =
+    let s : first + (4 + 28 * c) ≡ at + 4 = omega arith in
+    let g : first + (12 + 28 * c) ≡ at + 4 + 8 = omega arith in
+    rw (s, g) (both-true _ _ h)
+
+-- the first case's offset with one case more: cases that stand one behind the other still do
+module _ (at first cases : ℕ) where
+  abbrev noted : ℕ
+  noted = cond (eqb cases 0) at first
+
+  noted-kept : 1 ≤ cases → noted ≡ first
+  noted-kept h = simp (ne-eqb cases 0 (omega arith))
+
+  noted-placed : (1 ≤ cases → at ≡ first + 28 * cases) → at ≡ noted + 28 * cases
+  noted-placed h =
+      elim (ℕ-discrete cases 0) [
+        | yes e ↦ simp (eq-eqb cases 0 e) (omega arith)
+        | no n ↦ let k : 1 ≤ cases = omega arith in rw (noted-kept k) (h k)
+      ]
+
+-- what holds of so many numbers and of the next one holds of one more
+one-more : (R : ℕ → Type 0) (count : ℕ) → ((k : ℕ) → k < count → R k) → R count → (k : ℕ) → k < count + 1 → R k
+one-more R count before last k h = elim (ℕ-discrete k count) [ yes e ↦ rw e last | no n ↦ before k (omega arith) ]
+
+-- the counts of a state that the reading may come to: no case before the section of the cases and at least one in it, the cases one
+-- behind the other up to the reading's offset
+record Counted (s : State) : Type 0 where
+  offsets : length (s .offsets) ≡ 64
+  presets : length (s .presets) ≡ 768
+  actions : s .progress .index .actions ≤ 64
+  cases : s .progress .index .cases ≤ 32
+  none : least (s .progress .section) ≤ 3 → s .progress .index .cases ≡ 0
+  some : 5 ≤ greatest (s .progress .section) → 1 ≤ s .progress .index .cases
+  placed : 1 ≤ s .progress .index .cases → s .progress .at ≡ s .progress .index .first + 28 * s .progress .index .cases
+
+-- such a state: its bounds, actions and cases, once read, are as those of a task that passes
+record Reached (bytes : List ℕ) (s : State) : Type 0 where
+  counted : Counted s
+  bounded : 2 ≤ greatest (s .progress .section) → inRange (s .progress .index .bounds) ≡ true
+  action : (a : ℕ) → a < s .progress .index .actions → ActionSound (s .progress .index .bounds .facts) bytes (getD (s .offsets) a 0)
+  case : (c : ℕ) → c < s .progress .index .cases → CaseSound (s .progress .index .bounds .facts) bytes (s .progress .index .first) c
+
+module _ (bytes : List ℕ) where
+  begin-reached : Reached bytes begin
+  unfolding begin noTask noIndex
+  begin-reached =
+      record {
+        counted = omega (arith, length-replicate {A = ℕ} 64 0, length-replicate {A = ℕ} 768 0);
+        bounded = λ h. absurd (omega arith);
+        action = λ a h. absurd (omega arith);
+        case = λ c h. absurd (omega arith);
+      }
+
+  -- an answer that passes has a task that passes
+  abbrev Sound : Reading → Type 0
+  Sound r = (v : ℕ) → r .verdict ≡ Accepted v → Passed bytes (r .task)
+
+  refused-sound : (question place : ℕ) → Sound (refused question place)
+  unfolding refused
+  refused-sound question place v e = let z : _≡_ {A = ℕ} 0 1 = cc in absurd (omega arith)
+
+  -- a turn that gives such an answer, or such a state
+  abbrev Kept : Turn State Reading → Type 0
+  Kept = Keeps (Reached bytes) Sound
+
+  ask-kept : (answer : Bool) (question place : ℕ) (rest : Turn State Reading) → (answer ≡ true → Kept rest)
+      → Kept (ask answer (refused question place) rest)
+  ask-kept answer question place rest k = ask-keeps (Reached bytes) Sound answer _ rest (refused-sound question place) k
+
+  module _ (s : State) (reached : Reached bytes s) where
+    header-kept : (body next : ℕ) → Kept (headerTurn bytes s body next)
+    unfolding headerTurn
+    header-kept body next =
+        ask-kept _ _ _ _ λ h.
+        record {
+          counted = omega arith;
+          bounded = λ l. h;
+          action = λ a l. absurd (omega arith);
+          case = λ c l. absurd (omega arith);
+        }
+
+    action-kept : (size next : ℕ) → Follows (s .progress .section) 2 → size ≡ u16At bytes (s .progress .at) → size % 32 ≡ 16
+        → Kept (actionTurn bytes s (s .progress .at + 4) size next)
+    unfolding actionTurn
+    action-kept size next f e m =
+        ask-kept _ _ _ _ λ h.
+        ask-kept _ _ _ _ λ k.
+        let n = s .progress .index .actions in
+        let o = s .offsets in
+        let few : n < 64 = ltb-true n 64 h in
+        let here = getD-set-same o n (s .progress .at) 0 (omega arith) in
+        record {
+          counted = omega (arith, reached .counted .none (omega arith), length-set o n (s .progress .at));
+          bounded = λ l. reached .bounded (omega arith);
+          action =
+              one-more (λ (a : ℕ). ActionSound (s .progress .index .bounds .facts) bytes (getD (set o n (s .progress .at)) a 0)) n
+              (λ a l. rw (getD-set-other o n a (s .progress .at) 0 (omega arith)) (reached .action a l))
+              (rw here (action-sound _ bytes (s .progress .at) size e m (eqb-true _ _ k)));
+          case = reached .case;
+        }
+
+    on-preset-kept : (body next : ℕ) → Follows (s .progress .section) 3 → (d : Decoded) → Kept (onPreset bytes s body next d)
+    unfolding onPreset
+    on-preset-kept body next f Nothing = refused-sound _ _
+    on-preset-kept body next f (Is w) =
+        ask-kept _ _ _ _ λ h.
+        let line = lineOffset (s .progress .index .bounds) (record { 0 = byteAt bytes body }) (record { 0 = byteAt bytes (body + 1) }) in
+        record {
+          counted = omega (arith, reached .counted .none (omega arith), put-length (s .presets) line (encode w));
+          bounded = λ l. reached .bounded (omega arith);
+          action = reached .action;
+          case = reached .case;
+        }
+
+    preset-kept : (body next : ℕ) → Follows (s .progress .section) 3 → Kept (presetTurn bytes s body next)
+    unfolding presetTurn
+    preset-kept body next f = on-preset-kept body next f _
+
+    case-kept : Follows (s .progress .section) 4 → Kept (caseTurn bytes s (s .progress .at + 4) (s .progress .at + 28))
+    unfolding caseTurn
+    case-kept f =
+        ask-kept _ _ _ _ λ h.
+        ask-kept _ _ _ _ λ k.
+        let n = s .progress .index .cases in
+        let few : n < 32 = ltb-true n 32 h in
+        let behind = noted-placed (s .progress .at) (s .progress .index .first) n (reached .counted .placed) in
+        record {
+          counted = omega (arith, behind);
+          bounded = λ l. reached .bounded (omega arith);
+          action = reached .action;
+          case =
+              one-more (CaseSound (s .progress .index .bounds .facts) bytes (noted (s .progress .at) (s .progress .index .first) n)) n
+              (λ c l. rw (noted-kept (s .progress .at) (s .progress .index .first) n (omega arith)) (reached .case c l))
+              (case-sound _ bytes (s .progress .at) _ n behind k);
+        }
+
+    close-kept : (next : ℕ) → Follows (s .progress .section) 5 → Kept (closeTurn bytes s next)
+    unfolding closeTurn accepted
+    close-kept next f =
+        ask-kept _ _ _ _ λ h v e.
+        record {
+          bounded = reached .bounded (omega arith);
+          actions = reached .counted .actions;
+          cases = (reached .counted .some (omega arith), reached .counted .cases);
+          offsets = reached .counted .offsets;
+          presets = reached .counted .presets;
+          action = reached .action;
+          case = reached .case;
+        }
+
+    kinds-kept : Kinds (Reached bytes) Sound bytes s
+    kinds-kept =
+        record {
+          refusal = λ question. refused-sound question _;
+          header = λ f. header-kept _ _;
+          action = λ size f e l m. action-kept size _ f e m;
+          preset = λ f. preset-kept _ _ f;
+          case = case-kept;
+          close = λ f. close-kept _ f;
+        }
+
+pub passed : (bytes : List ℕ) (v : ℕ) → readTask bytes .verdict ≡ Accepted v → Passed bytes (readTask bytes .task)
+passed bytes = reading-keeps (Reached bytes) (Sound bytes) bytes (begin-reached bytes) (kinds-kept bytes)
