@@ -1,0 +1,136 @@
+-- The single step, answer by answer; that a finished run stays as it is, that a refusal changes nothing, and that 0 and 1 say that one step
+-- was made, to a possible position.
+-- Assumes nothing.
+use Prim.Native.Nat.{ℕ, _+_, _<_}
+use mathlib.Core.Path.{_≡_, refl, sym, ap, _∙_}
+use mathlib.Core.Bool.{Bool, true, false}
+use mathlib.Core.List.{List}
+use native.Mathlib.Omega.{arith}
+use lib.ListN.{length}
+use borrow.Author.Tests.{eq-eqb, ne-eqb, eqb-false}
+use Rattle.records.specs.Loop.{Turn, stop, go}
+use Rattle.records.proofs.Laws.Tests.{cond-either, cond-yes, cond-no}
+use Rattle.task.specs.Program.{programVerdict}
+use Rattle.task.specs.Reading.{readTask}
+use Rattle.task.specs.Verdict.{valueOf}
+use Rattle.task.specs.declared.index.Index.{Index}
+use Rattle.task.specs.declared.index.Task.{Task}
+use Rattle.task.specs.declared.reading.Reading.{Reading}
+use Rattle.task.specs.declared.verdict.Verdict.{Verdict}
+use Rattle.task.specs.declared.verdict.Verdict.the-variants.{Accepted, Refused}
+use Rattle.task.proofs.Laws.Passed.{Passed, passed}
+use Rattle.step.specs.Perform.{runStep, unchanged, answered}
+use Rattle.step.specs.Possible.{possible}
+use Rattle.step.specs.Questions.{POSSIBLE}
+use Rattle.step.specs.Single.{following, stepOnce, onReading, singleStep}
+use Rattle.step.specs.declared.perform.Stepped.{Stepped}
+use Rattle.step.specs.declared.position.Position.{Position}
+use Rattle.step.proofs.Laws.Kept.{run-possible}
+use Rattle.step.proofs.Laws.Perform.{step-ran, ran-steps}
+
+-- task and program passed: `h` says whether the position is possible
+module _ (bytes : List ℕ) (i : Index) (offsets program : List ℕ) (s : Position) (h : Bool) (e : h ≡ possible i s) where
+  pub step-impossible : h ≡ false → unchanged s (Refused POSSIBLE 0) ≡ stepOnce bytes i offsets program s
+  unfolding stepOnce
+  step-impossible z = cond-no _ _ _ _ e z
+
+  pub step-finished : h ≡ true → s .depth ≡ 0 → unchanged s (Accepted 0) ≡ stepOnce bytes i offsets program s
+  unfolding stepOnce
+  step-finished y d = cond-yes _ true _ _ (sym (eq-eqb (s .depth) 0 d)) refl ∙ cond-yes _ _ _ _ e y
+
+  pub step-runs : h ≡ true → (s .depth ≡ 0 → ⊥) → answered s (runStep bytes i offsets program s) ≡ stepOnce bytes i offsets program s
+  unfolding stepOnce
+  step-runs y d = cond-no _ false _ _ (sym (ne-eqb (s .depth) 0 d)) refl ∙ cond-yes _ _ _ _ e y
+
+-- the task's reading `r`, its verdict first
+module _ (bytes program : List ℕ) (s : Position) (r : Reading) (e : r ≡ readTask bytes) where
+  on-reading : onReading bytes program s r ≡ singleStep bytes program s
+  unfolding singleStep
+  on-reading = ap (onReading bytes program s) e
+
+  pub task-refused : (question place : ℕ) → r .verdict ≡ Refused question place → unchanged s (r .verdict) ≡ singleStep bytes program s
+  unfolding onReading following
+  task-refused question place h = rw h (rw h at on-reading)
+
+  module _ (value : ℕ) (h : r .verdict ≡ Accepted value) (v : Verdict) (g : v ≡ programVerdict (r .task .index) (r .task .presets) program) where
+    pub program-refused : (question place : ℕ) → v ≡ Refused question place → unchanged s v ≡ singleStep bytes program s
+    unfolding onReading following
+    program-refused question place k = rw k (rw (h, ← g, k) at on-reading)
+
+    pub both-passed : (value : ℕ) → v ≡ Accepted value → stepOnce bytes (r .task .index) (r .task .offsets) program s ≡ singleStep bytes program s
+    unfolding onReading following
+    both-passed value k = rw (h, ← g, k) at on-reading
+
+-- a finished run stays as it is
+pub finished-stays : (bytes program : List ℕ) (s : Position) (v p : ℕ) → readTask bytes .verdict ≡ Accepted v
+    → programVerdict (readTask bytes .task .index) (readTask bytes .task .presets) program ≡ Accepted p
+    → possible (readTask bytes .task .index) s ≡ true → s .depth ≡ 0 → singleStep bytes program s ≡ record { verdict = Accepted 0; position = s }
+unfolding singleStep onReading following stepOnce unchanged
+finished-stays bytes program s v p h k l d = simp (h, k, l, eq-eqb (s .depth) 0 d)
+
+-- what the answers of the single step say, each shown of every answer that the definition can give
+module _ (bytes program : List ℕ) (s : Position) where
+  abbrev t : Task
+  t = readTask bytes .task
+
+  -- a step was made, to a position
+  pub record Made (u : Position) : Type 0 where
+    pub passes : Passed bytes t
+    pub possible : possible (t .index) s ≡ true
+    pub unfinished : 0 < s .depth
+    pub ran : runStep bytes (t .index) (t .offsets) program s ≡ go u
+
+  record Says (r : Stepped) : Type 0 where
+    refused : (question place : ℕ) → r .verdict ≡ Refused question place → r .position ≡ s
+    made : r .verdict ≡ Accepted 1 → Made (r .position)
+
+  unchanged-says : (v : Verdict) → (v ≡ Accepted 1 → ⊥) → Says (unchanged s v)
+  unfolding unchanged
+  unchanged-says v h = record { refused = λ q p e. refl; made = λ e. absurd (h e) }
+
+  refused-says : (question place : ℕ) → Says (unchanged s (Refused question place))
+  refused-says question place = unchanged-says _ (λ e. let z : _≡_ {A = ℕ} 0 1 = cc in omega arith)
+
+  turn-says : Passed bytes t → possible (t .index) s ≡ true → 0 < s .depth → (u : Turn Position ℕ)
+      → runStep bytes (t .index) (t .offsets) program s ≡ u → Says (answered s u)
+  unfolding answered
+  turn-says h p d (stop question) e = refused-says question (s .steps)
+  turn-says h p d (go next) e =
+      record {
+        refused = λ q p f. let z : _≡_ {A = ℕ} 0 1 = cc in absurd (omega arith);
+        made = λ f. record { passes = h; possible = p; unfinished = d; ran = e };
+      }
+
+  once-says : Passed bytes t → Says (stepOnce bytes (t .index) (t .offsets) program s)
+  unfolding stepOnce
+  once-says h =
+      cond-either Says _ _ _
+      (λ p. cond-either Says _ _ _ (λ z. unchanged-says (Accepted 0) (λ e. omega (arith, ap valueOf e)))
+      (λ z. turn-says h p (omega (arith, eqb-false (s .depth) 0 z)) _ refl))
+      (λ z. refused-says POSSIBLE 0)
+
+  following-says : (v : Verdict) (rest : Stepped) → ((value : ℕ) → v ≡ Accepted value → Says rest) → Says (following s v rest)
+  unfolding following
+  following-says (Accepted value) rest h = h value refl
+  following-says (Refused question place) rest h = refused-says question place
+
+  says : Says (singleStep bytes program s)
+  unfolding singleStep onReading
+  says = following-says _ _ (λ v e. following-says _ _ (λ w f. once-says (passed bytes v e)))
+
+  -- a refusal gives the position back as it was
+  pub single-refused : (question place : ℕ) → singleStep bytes program s .verdict ≡ Refused question place → singleStep bytes program s .position ≡ s
+  single-refused = says .refused
+
+  -- 0 and 1 say that one step was made, from a possible position that is not the finish
+  pub single-made : singleStep bytes program s .verdict ≡ Accepted 1 → Made (singleStep bytes program s .position)
+  single-made = says .made
+
+  -- and that it led to a possible position again, with one step more done
+  pub single-possible : length (s .frames) ≡ 16 → singleStep bytes program s .verdict ≡ Accepted 1
+      → (possible (t .index) (singleStep bytes program s .position) ≡ true) × (singleStep bytes program s .position .steps ≡ s .steps + 1)
+  single-possible room h =
+      let m = single-made h in (
+        run-possible bytes t (m .passes) s (m .possible) (m .unfinished) room program _ (m .ran) .0,
+        ran-steps bytes _ _ s program _ (step-ran bytes _ _ s program _ (m .ran) .1),
+      )

@@ -1,0 +1,48 @@
+-- What an action does, fact by fact. Every condition is tested in the state before the action, and the effects whose conditions are met
+-- there fire, all at once: what they raise is true afterwards, what they lower is false, and a fact that none of them names stays as it was.
+use Prim.Native.Nat.{ℕ, zero, suc}
+use mathlib.Core.List.{List, [], _∷_}
+use mathlib.Core.Bool.{Bool, false, cond, not, _&&_, _||_}
+use Rattle.task.specs.Index.{actionAt, effectAt}
+use Rattle.task.specs.declared.index.Effect.{Effect}
+use Rattle.step.specs.Facts.{has, setOf, every, holds}
+use Rattle.step.specs.declared.effects.Changes.{Changes}
+
+-- of the action whose record is at an offset, the effects from number e on, `left` of them
+unfoldable pub effectsFrom : List ℕ → ℕ → ℕ → ℕ → List Effect
+effectsFrom bytes at e zero = []
+effectsFrom bytes at e (suc left) = effectAt bytes at e ∷ effectsFrom bytes at (suc e) left
+
+-- all its effects
+unfoldable pub effectsOf : List ℕ → ℕ → List Effect
+effectsOf bytes at = effectsFrom bytes at 0 (actionAt bytes at .effects)
+
+-- the effects that fire: those whose conditions hold in the state
+unfoldable pub fired : ℕ → List Effect → List Effect
+fired state [] = []
+fired state (e ∷ rest) = cond (holds state (e .condition)) (e ∷ fired state rest) (fired state rest)
+
+-- whether one of some effects has a fact in its raised set, or in its lowered set, as `part` says
+unfoldable pub someHas : (Effect → ℕ) → List Effect → ℕ → Bool
+someHas part [] f = false
+someHas part (e ∷ rest) f = has (part e) f || someHas part rest f
+
+-- the facts that the fired effects raise, and those that they lower
+unfoldable pub changesOf : ℕ → List Effect → Changes
+changesOf state effects =
+    record {
+      raised = setOf 64 (someHas (λ e. e .raised) (fired state effects));
+      lowered = setOf 64 (someHas (λ e. e .lowered) (fired state effects));
+    }
+
+-- whether no fact is both raised and lowered
+unfoldable pub clashFree : Changes → Bool
+clashFree c = every 64 (λ f. not (has (c .raised) f && has (c .lowered) f))
+
+-- whether a fact is true afterwards: it is raised, or it was true and is not lowered
+unfoldable pub trueAfter : ℕ → Changes → ℕ → Bool
+trueAfter state c f = has (c .raised) f || (has state f && not (has (c .lowered) f))
+
+-- the state afterwards
+unfoldable pub changed : ℕ → Changes → ℕ
+changed state c = setOf 64 (trueAfter state c)

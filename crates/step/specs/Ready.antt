@@ -1,0 +1,41 @@
+-- What the functions below the single step require, so that no index, sum or shift leaves its type. The questions that come before them give
+-- it: 1 to 9 the task's bounds, 31 the position's, 14 the steps', and decoding the instruction's.
+use Prim.Native.Nat.{_≤_, _<_}
+use mathlib.Core.Path.{_≡_}
+use mathlib.Core.Bool.{true}
+use Rattle.task.specs.Bounds.{inRange}
+use Rattle.task.specs.Instruction.{allowed}
+use Rattle.task.specs.declared.index.Index.{Index}
+use Rattle.task.specs.declared.instruction.Instruction.{Instruction}
+use Rattle.step.specs.Position.{top}
+use Rattle.step.specs.Possible.{possible}
+use Rattle.step.specs.declared.position.Position.{Position}
+
+-- a task whose bounds are in range and whose counts question 4 lets pass
+pub record Bounded (i : Index) : Type 0 where
+  pub ranges : inRange (i .bounds) ≡ true
+  pub actions : i .actions ≤ 64
+  pub cases : i .cases ≤ 32
+
+-- a position with a frame, whose steps can grow
+pub record Framed (s : Position) : Type 0 where
+  pub above : 0 < s .depth
+  pub below : s .depth ≤ 16
+  pub steps : s .steps < 65535
+
+-- one whose top line can grow as well
+pub record Movable (s : Position) : Type 0 where
+  pub framed : Framed s
+  pub line : top s .line .0 < 255
+
+-- a possible position of such a task, and not the finish
+pub record Open (i : Index) (s : Position) : Type 0 where
+  pub task : Bounded i
+  pub possible : possible i s ≡ true
+  pub unfinished : 0 < s .depth
+
+-- one at which fewer than S steps are done, and the instruction is allowed on the top frame's line
+pub record Ready (i : Index) (s : Position) (w : Instruction) : Type 0 where
+  pub standing : Open i s
+  pub left : s .steps < i .bounds .steps
+  pub allowed : allowed (i .bounds) (i .actions) (top s .line) w ≡ true

@@ -1,0 +1,55 @@
+// What an action does: its effects are walked once, every condition tested in the state before the action, into the sets of the facts
+// that are raised and lowered.
+use crate::facts::holds;
+use task::index::effect_at;
+ghost use mathlib.Core.Path.{_≡_};
+ghost use mathlib.Core.Bool.{cond};
+ghost use lib.Bits.{bitOr};
+ghost use Rattle.task.specs.Index.{actionAt};
+ghost use Rattle.step.specs.Effects.{effectsOf, changesOf, clashFree, changed};
+
+// The facts that fired effects raise, and those that they lower.
+pub struct Changes {
+    pub raised: u64,
+    pub lowered: u64,
+}
+
+// A set, with the facts of another if an effect fires.
+fn joined(fires: bool, set: u64, more: u64) -> u64
+    ensures { λ r. ⌜ r ≡ cond fires (bitOr set more) set ⌝ }
+{
+    if fires { set | more } else { set }
+}
+
+// What the effects of the action at an offset, so many of them, change in a state.
+pub(crate) fn changes_of(task: &[u8], at: usize, effects: u16, state: u64) -> Changes
+    requires { ⌜ effects ≡ actionAt (now task) at .effects ⌝ }
+    ensures { λ r. ⌜ r ≡ changesOf state (effectsOf (now (task .entry)) at) ⌝ }
+{
+    let mut raised = 0;
+    let mut lowered = 0;
+    let mut e = 0;
+    while e < effects {
+        let effect = effect_at(task, at, e);
+        let condition = effect.condition;
+        let fires = holds(state, condition);
+        raised = joined(fires, raised, effect.raised);
+        lowered = joined(fires, lowered, effect.lowered);
+        e += 1;
+    }
+    Changes { raised, lowered }
+}
+
+// Whether no fact is both raised and lowered.
+pub(crate) fn clash_free(changes: Changes) -> bool
+    ensures { λ r. ⌜ r ≡ clashFree changes ⌝ }
+{
+    changes.raised & changes.lowered == 0
+}
+
+// The state after the changes.
+pub(crate) fn changed(state: u64, changes: Changes) -> u64
+    ensures { λ r. ⌜ r ≡ changed state changes ⌝ }
+{
+    changes.raised | (state ^ (state & changes.lowered))
+}

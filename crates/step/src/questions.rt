@@ -1,0 +1,16 @@
+// The questions that a run asks, by their numbers.
+
+// Is the number of steps made still below S?
+pub const STEPS: u8 = 14;
+// Act: is its precondition met?
+pub const PRECONDITION: u8 = 19;
+// Act: does no fact get both raised and lowered?
+pub const CLASH: u8 = 20;
+// Call: has the stack room below m frames?
+pub const STACK: u8 = 21;
+// End with one frame: is the case's goal met?
+pub const GOAL: u8 = 22;
+// Is there something other than empty on the line?
+pub const EMPTY: u8 = 28;
+// Can this be a position of the task?
+pub const POSSIBLE: u8 = 31;
