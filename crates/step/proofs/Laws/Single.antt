@@ -7,6 +7,7 @@ use mathlib.Core.Bool.{Bool, true, false}
 use mathlib.Core.List.{List}
 use native.Mathlib.Omega.{arith}
 use lib.ListN.{length}
+use lib.Dec.{eqb}
 use borrow.Author.Tests.{eq-eqb, ne-eqb, eqb-false}
 use Rattle.records.specs.Loop.{Turn, stop, go}
 use Rattle.records.proofs.Laws.Tests.{cond-either, cond-yes, cond-no}
@@ -105,7 +106,7 @@ module _ (bytes program : List ℕ) (s : Position) where
   unfolding stepOnce
   once-says h =
       cond-either Says _ _ _
-      (λ p. cond-either Says _ _ _ (λ z. unchanged-says (Accepted 0) (λ e. omega (arith, ap valueOf e)))
+      (λ p. cond-either Says (eqb (s .depth) 0) _ _ (λ z. unchanged-says (Accepted 0) (λ e. omega (arith, ap valueOf e)))
       (λ z. turn-says h p (omega (arith, eqb-false (s .depth) 0 z)) _ refl))
       (λ z. refused-says POSSIBLE 0)
 
