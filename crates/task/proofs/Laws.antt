@@ -9,3 +9,4 @@ pub mod Passed
 pub mod Program
 pub mod Reading
 pub mod Turns
+pub mod Verdict

@@ -157,7 +157,9 @@ holds-word state l h k =
     sym
     (word-none _ (agrees state l)
     (or-lt 64 _ _ (without-lt 64 _ state h) (lt-of-le-of-lt (and-le-l (l .negative) state) k))
-    (λ f. sym (ap not (has-or _ _ f ∙ (λ i. has-without (l .positive) state f i || has-and (l .negative) state f i)) ∙ table (has (l .positive) f) (has (l .negative) f) (has state f))))
+    (λ f.
+    let bits = has-or _ _ f ∙ (λ i. has-without (l .positive) state f i || has-and (l .negative) state f i) in
+    sym (ap not bits ∙ table (has (l .positive) f) (has (l .negative) f) (has state f))))
   where
     table : (p q s : Bool) → not ((p && not s) || (q && s)) ≡ ((not p || s) && (not q || not s))
     table true true true = refl

@@ -43,22 +43,22 @@ module _ (i : Index) (s : Position) where
     movable : top s .line .0 < i .bounds .last → Movable s
     movable h = record { framed = ready-framed; line = omega (arith, ranges (i .bounds) (r .standing .task .ranges) .last .1) }
 
-    within-line : Allowed (i .bounds) (i .actions) (top s .line) w
-    within-line = allows (i .bounds) (i .actions) (top s .line) w (r .allowed)
+    allowed-there : Allowed (i .bounds) (i .actions) (top s .line) w
+    allowed-there = allows (i .bounds) (i .actions) (top s .line) w (r .allowed)
 
     pub ready-act : (action : ℕ) → w ≡ Act action → Movable s × (action < 64)
     ready-act action e =
-        let a : Allowed (i .bounds) (i .actions) (top s .line) (Act action) = rw e at within-line in
+        let a : Allowed (i .bounds) (i .actions) (top s .line) (Act action) = rw e at allowed-there in
         (movable (a .0), omega (arith, a .1, r .standing .task .actions))
 
     pub ready-goto : (target : Line) (fact : ℕ) → w ≡ Goto target fact → Movable s × (fact < 64)
     ready-goto target fact e =
-        let a : Allowed (i .bounds) (i .actions) (top s .line) (Goto target fact) = rw e at within-line in
+        let a : Allowed (i .bounds) (i .actions) (top s .line) (Goto target fact) = rw e at allowed-there in
         (movable (a .0), omega (arith, a .2, ranges (i .bounds) (r .standing .task .ranges) .facts .1))
 
     pub ready-call : (procedure : Proc) → w ≡ Call procedure → Movable s × (i .bounds .stack ≤ 16)
     ready-call procedure e =
-        let a : Allowed (i .bounds) (i .actions) (top s .line) (Call procedure) = rw e at within-line in
+        let a : Allowed (i .bounds) (i .actions) (top s .line) (Call procedure) = rw e at allowed-there in
         (movable (a .0), ranges (i .bounds) (r .standing .task .ranges) .stack .1)
 
 -- what is decoded on the top frame's line is allowed there

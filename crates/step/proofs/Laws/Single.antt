@@ -20,6 +20,7 @@ use Rattle.task.specs.declared.reading.Reading.{Reading}
 use Rattle.task.specs.declared.verdict.Verdict.{Verdict}
 use Rattle.task.specs.declared.verdict.Verdict.the-variants.{Accepted, Refused}
 use Rattle.task.proofs.Laws.Passed.{Passed, passed}
+use Rattle.task.proofs.Laws.Verdict.{refused-accepted}
 use Rattle.step.specs.Perform.{runStep, unchanged, answered}
 use Rattle.step.specs.Possible.{possible}
 use Rattle.step.specs.Questions.{POSSIBLE}
@@ -66,8 +67,9 @@ module _ (bytes program : List ℕ) (s : Position) (r : Reading) (e : r ≡ read
 pub finished-stays : (bytes program : List ℕ) (s : Position) (v p : ℕ) → readTask bytes .verdict ≡ Accepted v
     → programVerdict (readTask bytes .task .index) (readTask bytes .task .presets) program ≡ Accepted p
     → possible (readTask bytes .task .index) s ≡ true → s .depth ≡ 0 → singleStep bytes program s ≡ record { verdict = Accepted 0; position = s }
-unfolding singleStep onReading following stepOnce unchanged
-finished-stays bytes program s v p h k l d = simp (h, k, l, eq-eqb (s .depth) 0 d)
+unfolding unchanged
+finished-stays bytes program s v p h k l d =
+    sym (step-finished bytes _ _ program s true (sym l) refl d ∙ both-passed bytes program s (readTask bytes) refl v h _ refl p k)
 
 -- what the answers of the single step say, each shown of every answer that the definition can give
 module _ (bytes program : List ℕ) (s : Position) where
@@ -90,7 +92,7 @@ module _ (bytes program : List ℕ) (s : Position) where
   unchanged-says v h = record { refused = λ q p e. refl; made = λ e. absurd (h e) }
 
   refused-says : (question place : ℕ) → Says (unchanged s (Refused question place))
-  refused-says question place = unchanged-says _ (λ e. let z : _≡_ {A = ℕ} 0 1 = cc in omega arith)
+  refused-says question place = unchanged-says _ refused-accepted
 
   turn-says : Passed bytes t → possible (t .index) s ≡ true → 0 < s .depth → (u : Turn Position ℕ)
       → runStep bytes (t .index) (t .offsets) program s ≡ u → Says (answered s u)
@@ -98,7 +100,7 @@ module _ (bytes program : List ℕ) (s : Position) where
   turn-says h p d (stop question) e = refused-says question (s .steps)
   turn-says h p d (go next) e =
       record {
-        refused = λ q p f. let z : _≡_ {A = ℕ} 0 1 = cc in absurd (omega arith);
+        refused = λ q p f. absurd (refused-accepted (sym f));
         made = λ f. record { passes = h; possible = p; unfinished = d; ran = e };
       }
 
@@ -127,11 +129,11 @@ module _ (bytes program : List ℕ) (s : Position) where
   pub single-made : singleStep bytes program s .verdict ≡ Accepted 1 → Made (singleStep bytes program s .position)
   single-made = says .made
 
-  -- and that it led to a possible position again, with one step more done
+  -- and that it led to a possible position again, of 16 frames, with one step more done
   pub single-possible : length (s .frames) ≡ 16 → singleStep bytes program s .verdict ≡ Accepted 1
-      → (possible (t .index) (singleStep bytes program s .position) ≡ true) × (singleStep bytes program s .position .steps ≡ s .steps + 1)
+      → (possible (t .index) (singleStep bytes program s .position) ≡ true) × (length (singleStep bytes program s .position .frames) ≡ 16)
+      × (singleStep bytes program s .position .steps ≡ s .steps + 1)
   single-possible room h =
-      let m = single-made h in (
-        run-possible bytes t (m .passes) s (m .possible) (m .unfinished) room program _ (m .ran) .0,
-        ran-steps bytes _ _ s program _ (step-ran bytes _ _ s program _ (m .ran) .1),
-      )
+      let m = single-made h in
+      let kept = run-possible bytes t (m .passes) s (m .possible) (m .unfinished) room program _ (m .ran) in
+      (kept .0, kept .1, ran-steps bytes _ _ s program _ (step-ran bytes _ _ s program _ (m .ran) .1))

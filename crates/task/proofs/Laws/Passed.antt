@@ -19,6 +19,7 @@ use Rattle.records.proofs.Laws.Tests.{both-true}
 use Rattle.task.proofs.Laws.Facts.{pairs-consistent}
 use Rattle.task.proofs.Laws.Instruction.{put-length}
 use Rattle.task.proofs.Laws.Kept.{least, greatest, Follows, Kinds, reading-keeps}
+use Rattle.task.proofs.Laws.Verdict.{refused-accepted}
 use Rattle.task.specs.Bounds.{inRange}
 use Rattle.task.specs.Facts.{literalsAt, within, consistent, pairsBeforeFault}
 use Rattle.task.specs.Index.{actionAt, effectAt, caseAt}
@@ -129,7 +130,7 @@ module _ (bytes : List ℕ) where
 
   refused-sound : (question place : ℕ) → Sound (refused question place)
   unfolding refused
-  refused-sound question place v e = let z : _≡_ {A = ℕ} 0 1 = cc in absurd (omega arith)
+  refused-sound question place v e = absurd (refused-accepted e)
 
   -- a turn that gives such an answer, or such a state
   abbrev Kept : Turn State Reading → Type 0

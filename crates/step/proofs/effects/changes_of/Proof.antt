@@ -55,7 +55,9 @@ returns : tie.Need-returns Inv-loop μ-loop
 unfolding changesOf effectsOf
 returns c =
     let walked = c .before .loop .inv in
-    rw (← (c .before .before .before .pre)) (λ i. record { raised = walk-ends _ _ _ _ _ _ _ (walked .0) (c .loop-test .left) i; lowered = walk-ends _ _ _ _ _ _ _ (walked .1) (c .loop-test .left) i })
+    let raised = walk-ends _ _ _ _ _ _ _ (walked .0) (c .loop-test .left) in
+    let lowered = walk-ends _ _ _ _ _ _ _ (walked .1) (c .loop-test .left) in
+    rw (← (c .before .before .before .pre)) (λ i. record { raised = raised i; lowered = lowered i })
 
 pub changes-of-spec : {M : Type 1} → statement M
 changes-of-spec =

@@ -1,7 +1,7 @@
 -- `step::facts::has` meets its contract: a fact's bit is the lowest after a shift.
 -- Assumes nothing.
-use Rattle.step.specs.Facts.{has}
 use borrow.Author.Needs.{needs}
+use Rattle.step.specs.Facts.{has}
 use Rattle.step.proofs.facts.has.Statement.{statement}
 use Rattle.step.proofs.facts.has.Tie as tie
 

@@ -1,14 +1,12 @@
 -- `step::perform::act` meets its contract: questions 19 and 20 decide.
 -- Assumes nothing.
+use borrow.Author.Needs.{needs}
 use mathlib.Core.Path.{ap, _∙_}
-use native.Mathlib.Omega.{arith}
 use borrow.Author.Tests.{not-true, not-false}
 use Rattle.task.specs.declared.index.Action.{Action}
 use Rattle.step.specs.Perform.{answered}
 use Rattle.step.specs.Position.{advanced, jumped, withFacts}
-use Rattle.step.specs.declared.position.Position.{Position}
 use Rattle.step.proofs.Laws.Answers.{act-refused, act-clashes, act-moves}
-use borrow.Author.Needs.{needs}
 use Rattle.step.proofs.perform.act.Statement.{statement}
 use Rattle.step.proofs.perform.act.Tie as tie
 
@@ -62,7 +60,7 @@ with-facts-requires c κs = search needs
 
 moved-requires : tie.Need-moved-requires
 unfolding advanced jumped withFacts
-moved-requires c κs = omega (arith, ap (λ (p : Position). p .steps) (c .with-facts .ensures), ap (λ (p : Position). p .steps) (c .before .before .advanced .ensures))
+moved-requires c κs = rw (c .with-facts .ensures, c .before .before .advanced .ensures) (search needs)
 
 returns-3 : tie.Need-returns-3
 returns-3 c =

@@ -1,8 +1,8 @@
 -- `step::perform::after_case` meets its contract: whether a case is left decides.
 -- Assumes nothing.
+use borrow.Author.Needs.{needs}
 use native.Mathlib.Omega.{arith}
 use Rattle.step.proofs.Laws.Answers.{case-follows, none-follows}
-use borrow.Author.Needs.{needs}
 use Rattle.step.proofs.perform.after_case.Statement.{statement}
 use Rattle.step.proofs.perform.after_case.Tie as tie
 

@@ -1,12 +1,12 @@
 -- `step::perform::call` meets its contract: question 21 decides.
 -- Assumes nothing.
+use borrow.Author.Needs.{needs}
 use mathlib.Core.Path.{ap, _∙_}
 use native.Mathlib.Omega.{arith}
 use Rattle.step.specs.Perform.{answered}
 use Rattle.step.specs.Position.{advanced, jumped, pushed}
 use Rattle.step.specs.declared.position.Position.{Position}
 use Rattle.step.proofs.Laws.Answers.{call-refused, call-pushes}
-use borrow.Author.Needs.{needs}
 use Rattle.step.proofs.perform.call.Statement.{statement}
 use Rattle.step.proofs.perform.call.Tie as tie
 

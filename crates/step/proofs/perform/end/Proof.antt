@@ -1,13 +1,12 @@
 -- `step::perform::end` meets its contract: the number of frames decides, and question 22.
 -- Assumes nothing.
+use borrow.Author.Needs.{needs}
 use mathlib.Core.Path.{ap, _∙_}
 use native.Mathlib.Omega.{arith}
 use borrow.Author.Tests.{not-true, not-false}
 use Rattle.step.specs.Perform.{answered}
 use Rattle.step.specs.Position.{popped}
-use Rattle.step.specs.declared.position.Position.{Position}
 use Rattle.step.proofs.Laws.Answers.{end-pops, end-refused, end-closes, after-steps}
-use borrow.Author.Needs.{needs}
 use Rattle.step.proofs.perform.end.Statement.{statement}
 use Rattle.step.proofs.perform.end.Tie as tie
 
@@ -16,7 +15,7 @@ popped-requires c κs = search needs
 
 moved-requires : tie.Need-moved-requires
 unfolding popped
-moved-requires c κs = omega (arith, ap (λ (p : Position). p .steps) (c .popped .ensures))
+moved-requires c κs = rw (c .popped .ensures) (search needs)
 
 returns : tie.Need-returns
 returns c = c .moved .ensures _ ∙ ap (answered _) (end-pops _ _ _ (omega arith) _ (c .before .popped .ensures))

@@ -1,12 +1,10 @@
 -- `step::perform::goto` meets its contract: the fact decides between the next line and the target.
 -- Assumes nothing.
+use borrow.Author.Needs.{needs}
 use mathlib.Core.Path.{ap, _∙_}
-use native.Mathlib.Omega.{arith}
 use Rattle.step.specs.Perform.{answered}
 use Rattle.step.specs.Position.{advanced, jumped}
-use Rattle.step.specs.declared.position.Position.{Position}
 use Rattle.step.proofs.Laws.Answers.{goto-advances, goto-jumps}
-use borrow.Author.Needs.{needs}
 use Rattle.step.proofs.perform.goto.Statement.{statement}
 use Rattle.step.proofs.perform.goto.Tie as tie
 
@@ -18,14 +16,14 @@ advanced-requires c κs = search needs
 
 moved-requires : tie.Need-moved-requires
 unfolding advanced jumped
-moved-requires c κs = omega (arith, ap (λ (p : Position). p .steps) (c .advanced .ensures))
+moved-requires c κs = rw (c .advanced .ensures) (search needs)
 
 jumped-requires : tie.Need-jumped-requires
 jumped-requires c κs = search needs
 
 moved-requires-2 : tie.Need-moved-requires-2
 unfolding jumped
-moved-requires-2 c κs = omega (arith, ap (λ (p : Position). p .steps) (c .jumped .ensures))
+moved-requires-2 c κs = rw (c .jumped .ensures) (search needs)
 
 returns : tie.Need-returns
 returns c =

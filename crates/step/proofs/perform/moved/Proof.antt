@@ -1,8 +1,8 @@
 -- `step::perform::moved` meets its contract: one step more is counted.
 -- Assumes nothing.
+use borrow.Author.Needs.{needs}
 use Rattle.step.specs.Perform.{answered}
 use Rattle.task.specs.declared.verdict.Verdict.the-variants.{Accepted}
-use borrow.Author.Needs.{needs}
 use Rattle.step.proofs.perform.moved.Statement.{statement}
 use Rattle.step.proofs.perform.moved.Tie as tie
 

@@ -1,10 +1,10 @@
 -- `step::perform::perform` meets its contract: instruction by instruction.
 -- Assumes nothing.
+use borrow.Author.Needs.{needs}
 use mathlib.Core.Path.{ap, _∙_}
 use Rattle.step.specs.Perform.{answered}
 use Rattle.step.proofs.Laws.Answers.{performs-none, performs-act, performs-goto, performs-call, performs-end}
 use Rattle.step.proofs.Laws.Ready.{open-case, ready-framed, ready-act, ready-goto, ready-call}
-use borrow.Author.Needs.{needs}
 use Rattle.step.proofs.perform.perform.Statement.{statement}
 use Rattle.step.proofs.perform.perform.Tie as tie
 

@@ -1,8 +1,8 @@
 -- `step::perform::refused` meets its contract: the position stays as it was.
 -- Assumes nothing.
+use borrow.Author.Needs.{needs}
 use mathlib.Core.Path.{refl}
 use Rattle.step.specs.Perform.{answered, unchanged}
-use borrow.Author.Needs.{needs}
 use Rattle.step.proofs.perform.refused.Statement.{statement}
 use Rattle.step.proofs.perform.refused.Tie as tie
 

@@ -1,11 +1,11 @@
 -- `step::perform::run_step` meets its contract: question 14 decides, and then what stands on the line.
 -- Assumes nothing.
+use borrow.Author.Needs.{needs}
 use mathlib.Core.Path.{ap, _∙_}
 use native.Mathlib.Omega.{arith}
 use Rattle.step.specs.Perform.{answered}
 use Rattle.step.proofs.Laws.Answers.{steps-used, line-empty, line-runs}
 use Rattle.step.proofs.Laws.Ready.{open-depth, line-ready}
-use borrow.Author.Needs.{needs}
 use Rattle.step.proofs.perform.run_step.Statement.{statement}
 use Rattle.step.proofs.perform.run_step.Tie as tie
 

@@ -1,9 +1,9 @@
 -- `step::possible::possible` meets its contract: it is the conjunction of the five tests.
 -- Assumes nothing.
+use borrow.Author.Needs.{needs}
 use mathlib.Core.Bool.{_&&_}
 use lib.Dec.{leb}
 use Rattle.step.specs.Possible.{possible}
-use borrow.Author.Needs.{needs}
 use Rattle.step.proofs.possible.possible.Statement.{statement}
 use Rattle.step.proofs.possible.possible.Tie as tie
 

@@ -1,11 +1,11 @@
 -- `step::single::single_step` meets its contract: the task's verdict decides, then the program's; a task that passes has the bounds that a step requires.
 -- Assumes nothing.
+use borrow.Author.Needs.{needs}
 use mathlib.Core.Path.{sym, ap, _∙_}
 use Rattle.task.specs.declared.reading.Reading.{Reading}
 use Rattle.task.proofs.Laws.Passed.{passed}
 use Rattle.step.specs.Perform.{unchanged}
 use Rattle.step.proofs.Laws.Single.{task-refused, program-refused, both-passed}
-use borrow.Author.Needs.{needs}
 use Rattle.step.proofs.single.single_step.Statement.{statement}
 use Rattle.step.proofs.single.single_step.Tie as tie
 

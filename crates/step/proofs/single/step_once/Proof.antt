@@ -1,11 +1,11 @@
 -- `step::single::step_once` meets its contract: question 31 decides, then whether the run is finished.
 -- Assumes nothing.
+use borrow.Author.Needs.{needs}
 use mathlib.Core.Path.{sym, _∙_}
 use native.Mathlib.Omega.{arith}
 use borrow.Author.Tests.{not-true, not-false}
 use Rattle.step.specs.Perform.{unchanged}
 use Rattle.step.proofs.Laws.Single.{step-impossible, step-finished, step-runs}
-use borrow.Author.Needs.{needs}
 use Rattle.step.proofs.single.step_once.Statement.{statement}
 use Rattle.step.proofs.single.step_once.Tie as tie
 

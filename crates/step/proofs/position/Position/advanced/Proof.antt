@@ -1,7 +1,7 @@
 -- `step::position::Position::advanced` meets its contract: the top frame goes to the line after its own.
 -- Assumes nothing.
-use Rattle.step.specs.Position.{advanced, jumped}
 use borrow.Author.Needs.{needs}
+use Rattle.step.specs.Position.{advanced, jumped}
 use Prim.Native.Nat.{_+_}
 use mathlib.Core.Path.{ap, _∙_}
 use native.Mathlib.Omega.{arith}
@@ -20,7 +20,10 @@ jumped-requires c κs = search needs
 
 returns : tie.Need-returns
 unfolding advanced
-returns c = c .jumped .ensures ∙ ap (λ (f : Frame). jumped (c .before .before .before .args .self) (record { 0 = f .line .0 + 1 })) (c .before .before .top .ensures)
+returns c =
+    let at-top = c .before .before in
+    let s = at-top .before .args .self in
+    c .jumped .ensures ∙ ap (λ (f : Frame). jumped s (record { 0 = f .line .0 + 1 })) (at-top .top .ensures)
 
 pub advanced-spec : {M : Type 1} → statement M
 advanced-spec = tie.close (tie.spec top-requires add-t3 jumped-requires returns)

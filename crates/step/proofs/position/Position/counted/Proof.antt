@@ -1,8 +1,8 @@
 -- `step::position::Position::counted` meets its contract: only the steps grow.
 -- Assumes nothing.
+use borrow.Author.Needs.{needs}
 use mathlib.Core.Path.{refl}
 use Rattle.step.specs.Position.{counted}
-use borrow.Author.Needs.{needs}
 use Rattle.step.proofs.position.Position.counted.Statement.{statement}
 use Rattle.step.proofs.position.Position.counted.Tie as tie
 

@@ -1,8 +1,8 @@
 -- `step::position::Position::finished` meets its contract: no frame is left, and the lowest is (0, 0).
 -- Assumes nothing.
+use borrow.Author.Needs.{needs}
 use mathlib.Core.Path.{refl}
 use Rattle.step.specs.Position.{finished, origin}
-use borrow.Author.Needs.{needs}
 use Rattle.step.proofs.position.Position.finished.Statement.{statement}
 use Rattle.step.proofs.position.Position.finished.Tie as tie
 

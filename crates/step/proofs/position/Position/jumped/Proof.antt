@@ -1,8 +1,8 @@
 -- `step::position::Position::jumped` meets its contract: the top frame keeps its procedure.
 -- Assumes nothing.
+use borrow.Author.Needs.{needs}
 use mathlib.Core.Path.{refl}
 use Rattle.step.specs.Position.{jumped, top, origin}
-use borrow.Author.Needs.{needs}
 use Rattle.step.proofs.position.Position.jumped.Statement.{statement}
 use Rattle.step.proofs.position.Position.jumped.Tie as tie
 

@@ -1,8 +1,8 @@
 -- `step::position::Position::next_case` meets its contract: the lowest frame is (0, 0), and the only one.
 -- Assumes nothing.
+use borrow.Author.Needs.{needs}
 use mathlib.Core.Path.{refl}
 use Rattle.step.specs.Position.{nextCase, origin}
-use borrow.Author.Needs.{needs}
 use Rattle.step.proofs.position.Position.next_case.Statement.{statement}
 use Rattle.step.proofs.position.Position.next_case.Tie as tie
 

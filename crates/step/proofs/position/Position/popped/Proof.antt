@@ -1,8 +1,8 @@
 -- `step::position::Position::popped` meets its contract: the freed frame is (0, 0).
 -- Assumes nothing.
+use borrow.Author.Needs.{needs}
 use mathlib.Core.Path.{refl}
 use Rattle.step.specs.Position.{popped, origin}
-use borrow.Author.Needs.{needs}
 use Rattle.step.proofs.position.Position.popped.Statement.{statement}
 use Rattle.step.proofs.position.Position.popped.Tie as tie
 

@@ -1,8 +1,8 @@
 -- `step::position::Position::pushed` meets its contract: the frame above the top is written.
 -- Assumes nothing.
+use borrow.Author.Needs.{needs}
 use mathlib.Core.Path.{refl}
 use Rattle.step.specs.Position.{pushed}
-use borrow.Author.Needs.{needs}
 use Rattle.step.proofs.position.Position.pushed.Statement.{statement}
 use Rattle.step.proofs.position.Position.pushed.Tie as tie
 

@@ -1,8 +1,8 @@
 -- `step::position::Position::top` meets its contract: it is the frame below the depth.
 -- Assumes nothing.
+use borrow.Author.Needs.{needs}
 use mathlib.Core.Path.{refl}
 use Rattle.step.specs.Position.{top, origin}
-use borrow.Author.Needs.{needs}
 use Rattle.step.proofs.position.Position.top.Statement.{statement}
 use Rattle.step.proofs.position.Position.top.Tie as tie
 
