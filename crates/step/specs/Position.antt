@@ -1,7 +1,9 @@
 -- A run's position, and its moves. The stack's frames are counted from the lowest, number 0; the top one is number depth - 1. Frames above
 -- it are (0, 0), where question 31 says yes, and a move that frees a frame makes it (0, 0).
 use Prim.Native.Nat.{ℕ, _+_, _-_}
-use lib.ListN.{getD, set}
+use mathlib.Core.Bool.{Bool, _&&_}
+use lib.Dec.{eqb}
+use lib.ListN.{getD, set, replicate}
 use Rattle.task.specs.declared.instruction.Line.{Line}
 use Rattle.task.specs.declared.instruction.Proc.{Proc}
 use Rattle.step.specs.declared.position.Frame.{Frame}
@@ -10,6 +12,14 @@ use Rattle.step.specs.declared.position.Position.{Position}
 -- the frame (0, 0)
 unfoldable pub origin : Frame
 origin = record { procedure = record { 0 = 0 }; line = record { 0 = 0 } }
+
+-- whether two frames are the same
+unfoldable pub sameFrame : Frame → Frame → Bool
+sameFrame f g = eqb (f .procedure .0) (g .procedure .0) && eqb (f .line .0) (g .line .0)
+
+-- a case from its start: no step done, and one frame, (0, 0)
+unfoldable pub starting : ℕ → ℕ → Position
+starting case start = record { facts = start; steps = 0; case = case; depth = 1; frames = replicate 16 origin }
 
 -- the top frame
 unfoldable pub top : Position → Frame

@@ -132,7 +132,7 @@ fn end(task: &[u8], index: Index, position: Position) -> Stepped
 }
 
 // One instruction at a position: questions 19 to 22, and 28 of an empty one.
-fn perform(
+pub fn perform(
     task: &[u8],
     index: Index,
     offsets: &[usize; 64],

@@ -4,7 +4,7 @@ use task::instruction::Line;
 use task::instruction::Proc;
 ghost use mathlib.Core.Path.{_≡_};
 ghost use Prim.Native.Nat.{_≤_, _<_};
-ghost use Rattle.step.specs.Position.{top, jumped, advanced, pushed, popped, withFacts, nextCase, finished, counted};
+ghost use Rattle.step.specs.Position.{starting, top, jumped, advanced, pushed, popped, withFacts, nextCase, finished, counted};
 
 // A procedure and a line of it.
 #[repr(C)]
@@ -24,13 +24,29 @@ pub struct Position {
 }
 
 impl Position {
+    // A case from its start: no step done, and one frame, (0, 0).
+    pub fn starting(case: u8, start: u64) -> Position
+        ensures { λ r. ⌜ r ≡ starting case start ⌝ }
+    {
+        Position {
+            facts: start,
+            steps: 0,
+            case,
+            depth: 1,
+            frames: [Frame {
+                procedure: Proc(0),
+                line: Line(0),
+            }; 16],
+        }
+    }
+
     // The top frame.
-    pub(crate) fn top(self) -> Frame
+    pub fn top(self) -> Frame
         requires { ⌜ (0 < self .depth) × (self .depth ≤ 16) ⌝ }
         ensures { λ r. ⌜ r ≡ top self ⌝ }
     {
-        let at = self.depth as usize - 1;
-        self.frames[at]
+        let highest = self.depth as usize - 1;
+        self.frames[highest]
     }
 
     // The top frame's line becomes another.

@@ -34,3 +34,7 @@ inRange b =
 -- how many lines a program has: lines 0 to n of each procedure
 unfoldable pub lineCount : Bounds → ℕ
 lineCount b = b .procedures * (b .last + 1)
+
+-- how many bytes it has: three for each line
+abbrev pub programSize : Bounds → ℕ
+programSize b = 3 * lineCount b

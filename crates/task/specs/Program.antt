@@ -5,7 +5,7 @@ use mathlib.Core.List.{List}
 use mathlib.Core.Bool.{Bool, true, false, cond, _&&_, _||_}
 use lib.ListN.{length}
 use lib.Dec.{ltb, eqb}
-use Rattle.task.specs.Bounds.{lineCount}
+use Rattle.task.specs.Bounds.{lineCount, programSize}
 use Rattle.task.specs.First.{firstNo}
 use Rattle.task.specs.Instruction.{decode, tripleAt}
 use Rattle.task.specs.Questions.{PROGRAM-LENGTH, PROGRAM-LINES, PROGRAM-PRESETS}
@@ -53,6 +53,6 @@ everyLine i question test rest =
 -- questions 25, 26 and 27, in this order
 unfoldable pub programVerdict : Index → List ℕ → List ℕ → Verdict
 programVerdict i presets program =
-    cond (eqb (length program) (3 * lineCount (i .bounds)))
+    cond (eqb (length program) (programSize (i .bounds)))
     (everyLine i PROGRAM-LINES (lineAllowed i program) (everyLine i PROGRAM-PRESETS (presetHeld presets program) (Accepted 0)))
     (Refused PROGRAM-LENGTH 0)

@@ -47,7 +47,7 @@ pub(crate) fn in_range(b: Bounds) -> bool
 }
 
 // How many lines a program has.
-pub(crate) fn line_count(b: Bounds) -> u16
+pub fn line_count(b: Bounds) -> u16
     ensures { λ r. ⌜ r ≡ lineCount b ⌝ }
 {
     b.procedures as u16 * (b.last as u16 + 1)

@@ -89,7 +89,7 @@ pub fn decode(b: Bounds, actions: u8, line: Line, w: Triple) -> Decoded
 
 // Questions 7 and 15: the instruction that three bytes spell for a line of a procedure, if the procedure is below b and the
 // instruction allowed there and not empty.
-pub(crate) fn decode_for(b: Bounds, actions: u8, procedure: Proc, line: Line, w: Triple) -> Decoded
+pub fn decode_for(b: Bounds, actions: u8, procedure: Proc, line: Line, w: Triple) -> Decoded
     ensures { λ r. ⌜ r ≡ decodeFor b actions procedure line w ⌝ }
 {
     if (procedure.0 < b.procedures) & (0 < w.op) {
@@ -125,7 +125,7 @@ pub fn encode(w: Instruction) -> Triple
 }
 
 // The three bytes at an offset.
-pub(crate) fn triple_at(bytes: &[u8], at: usize) -> Triple
+pub fn triple_at(bytes: &[u8], at: usize) -> Triple
     ensures { λ r. ⌜ r ≡ tripleAt (now (bytes .entry)) at ⌝ }
 {
     if bytes.len() <= at {
@@ -148,7 +148,7 @@ fn put(bytes: &mut [u8], at: usize, byte: u8)
 }
 
 // Writes three bytes at an offset; what lies past the end is left out.
-pub(crate) fn put_triple(bytes: &mut [u8], at: usize, w: Triple)
+pub fn put_triple(bytes: &mut [u8], at: usize, w: Triple)
     ensures { λ _. ⌜ now (bytes .exit) ≡ withTriple (now (bytes .entry)) at w ⌝ }
 {
     if bytes.len() <= at {

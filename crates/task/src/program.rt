@@ -20,7 +20,7 @@ ghost use Rattle.task.specs.First.{firstNo};
 ghost use Rattle.task.specs.Program.{lineOffset, instructionOn, isInstruction, lineAllowed, sameTriple, presetHeld, programVerdict};
 
 // Where a line of a procedure begins in a program.
-pub(crate) fn line_offset(b: Bounds, procedure: Proc, line: Line) -> usize
+pub fn line_offset(b: Bounds, procedure: Proc, line: Line) -> usize
     ensures { λ r. ⌜ r ≡ lineOffset b procedure line ⌝ }
 {
     3 * (procedure.0 as usize * (b.last as usize + 1) + line.0 as usize)

@@ -1,6 +1,7 @@
 -- A step keeps a possible position possible: question 31 asks nothing that a step does not keep. A move changes one frame, and what it
 -- makes of that frame, of the depth and of the case is in range because the instruction is allowed on its line; the facts stay below F
--- because the task's sets are; and question 14 leaves room for one step more. A position's frames are 16, and stay 16.
+-- because the task's sets are; and question 14 leaves room for one step more. A position's frames are 16, and stay 16. And a case begins at a
+-- possible position.
 -- Assumes nothing.
 use Prim.Native.Nat.{ℕ, _+_, _-_, _≤_, _<_}
 use mathlib.Core.Path.{_≡_, refl, ap, _∙_}
@@ -8,12 +9,13 @@ use mathlib.Core.Bool.{true}
 use mathlib.Core.List.{List}
 use native.Mathlib.Decide.{ℕ-discrete, decLt}
 use native.Mathlib.Omega.{arith}
-use lib.ListN.{length, getD, set, length-set}
+use lib.ListN.{length, getD, set, length-set, length-replicate, getD-replicate}
 use lib.Seq.{getD-set-same, getD-set-other}
 use borrow.Author.Tests.{ltb-true, leb-true, eqb-true, lt-ltb, le-ltb, le-leb, eq-eqb, ne-eqb}
 use Rattle.records.specs.Loop.{go}
 use Rattle.records.proofs.Laws.Tests.{both-true}
 use Rattle.task.specs.Facts.{within, consistent}
+use Rattle.task.specs.Index.{caseAt}
 use Rattle.task.specs.Instruction.{allowed}
 use Rattle.task.specs.Program.{instructionOn}
 use Rattle.task.specs.declared.bounds.Bounds.{Bounds}
@@ -27,7 +29,7 @@ use Rattle.task.proofs.Laws.Instruction.{Allowed, allows, decode-allowed}
 use Rattle.task.proofs.Laws.Passed.{Passed}
 use Rattle.step.specs.Effects.{effectsOf, changesOf, changed}
 use Rattle.step.specs.Perform.{perform, runStep}
-use Rattle.step.specs.Position.{origin, top, jumped, advanced, pushed, popped, withFacts, nextCase, finished, counted}
+use Rattle.step.specs.Position.{origin, starting, top, jumped, advanced, pushed, popped, withFacts, nextCase, finished, counted}
 use Rattle.step.specs.Possible.{inUse, unused, frameFits, depthFits, possible}
 use Rattle.step.specs.declared.position.Frame.{Frame}
 use Rattle.step.specs.declared.position.Position.{Position}
@@ -211,3 +213,25 @@ module _ (bytes : List ℕ) (t : Task) (passed : Passed bytes t) where
       let ran = step-ran bytes i (t .offsets) s program u e in
       let w = ran .1 .instruction in
       step-possible s h above (ran .0) room w (decode-allowed (i .bounds) (i .actions) (top s .line) _ w (ran .1 .here)) u (ran .1 .does)
+
+  starting-fits : (c start k : ℕ) → k < 16 → frameFits (i .bounds) (starting c start) k ≡ true
+  unfolding starting origin
+  starting-fits c start k h =
+      fitting-fits (i .bounds) (starting c start) k (rw (getD-replicate 16 k origin origin h) (record { used = λ m. omega (arith, r); free = λ m. omega arith }))
+
+  -- a case from its start is possible
+  pub starting-possible : (c : ℕ) → c < t .index .cases → (possible (t .index) (starting c (caseAt bytes (t .index .first) c .start)) ≡ true)
+      × (length (starting c (caseAt bytes (t .index .first) c .start) .frames) ≡ 16)
+  unfolding starting depthFits
+  starting-possible c l =
+      let s = starting c (caseAt bytes (i .first) c .start) in (
+        parts-possible i s
+            (record {
+              case = omega arith;
+              facts = passed .case c l .0;
+              steps = omega arith;
+              depth = simp (ne-eqb c (i .cases) (omega arith), le-leb 1 (i .bounds .stack) (r .stack .0));
+              frames = every-all (frameFits (i .bounds) s) 16 (starting-fits c (s .facts));
+            }),
+        length-replicate 16 origin,
+      )

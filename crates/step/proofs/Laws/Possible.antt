@@ -5,7 +5,7 @@ use mathlib.Core.Path.{_≡_, refl, sym, _∙_}
 use mathlib.Core.Bool.{Bool, true, false, cond, _&&_, true≢false}
 use native.Mathlib.Omega.{arith}
 use lib.Dec.{leb, eqb}
-use borrow.Author.Tests.{leb-true, le-leb, eqb-true, eq-eqb}
+use borrow.Author.Tests.{ne-eqb, leb-true, le-leb, eqb-true, eq-eqb}
 use Rattle.records.proofs.Laws.Tests.{both-true}
 use Rattle.task.specs.Bounds.{between}
 use Rattle.task.specs.Facts.{within}
@@ -55,3 +55,8 @@ module _ (i : Index) (s : Position) where
           → (s .case ≡ i .cases → ⊥) × (s .depth ≤ i .bounds .stack)
       by true e k = absurd (omega (arith, eqb-true (s .depth) 0 k))
       by false e k = (λ c. true≢false (sym (eq-eqb (s .case) (i .cases) c) ∙ e), between-true 1 (s .depth) (i .bounds .stack) k .1)
+
+  -- with a case open there is a frame
+  pub case-open : depthFits i s ≡ true → (s .case ≡ i .cases → ⊥) → 0 < s .depth
+  unfolding depthFits
+  case-open h n = between-true 1 (s .depth) (i .bounds .stack) (rw (ne-eqb (s .case) (i .cases) n) at h) .0

@@ -6,11 +6,11 @@ use Rattle.step.specs.Position.{top, origin}
 use Rattle.step.proofs.position.Position.top.Statement.{statement}
 use Rattle.step.proofs.position.Position.top.Tie as tie
 
-cast-at : tie.Need-cast-at
-cast-at c = search needs
+cast-highest : tie.Need-cast-highest
+cast-highest c = search needs
 
-sub-at : tie.Need-sub-at
-sub-at c = search needs
+sub-highest : tie.Need-sub-highest
+sub-highest c = search needs
 
 mul-result : tie.Need-mul-result
 mul-result c = search needs
@@ -23,4 +23,4 @@ unfolding top origin
 returns c = refl
 
 pub top-spec : {M : Type 1} → statement M
-top-spec = tie.close (tie.spec cast-at sub-at mul-result element-copy-out-result returns)
+top-spec = tie.close (tie.spec cast-highest sub-highest mul-result element-copy-out-result returns)
