@@ -1,0 +1,213 @@
+-- One record of a plan, answer by answer: what its tests lead to, as the functions that follow the plan find out. Each law is for every state
+-- with an offset, a position and a program.
+-- Assumes nothing.
+use Prim.Native.Nat.{ℕ, _+_, _≤_, _<_}
+use mathlib.Core.Path.{_≡_, refl, sym, _∙_}
+use mathlib.Core.Bool.{Bool, true, false}
+use mathlib.Core.List.{List}
+use lib.Dec.{eqb}
+use lib.ListN.{length}
+use native.Mathlib.Omega.{arith}
+use borrow.Author.Tests.{lt-ltb, le-ltb, eq-eqb, ne-eqb, eqb-true}
+use Rattle.records.specs.Loop.{Turn, stop, go}
+use Rattle.records.specs.Numbers.{byteAt}
+use Rattle.records.specs.Record.{recordAt}
+use Rattle.records.specs.declared.record.Found.{Found}
+use Rattle.records.specs.declared.record.Found.the-variants.{Record, Missing}
+use Rattle.records.proofs.Laws.Loop.{ask-yes, ask-no}
+use Rattle.records.proofs.Laws.Record.{record-ends}
+use Rattle.records.proofs.Laws.Tests.{both-true, cond-either, cond-yes, cond-no}
+use Rattle.task.specs.Instruction.{allowed, decodeFor, encode, tripleAt}
+use Rattle.task.specs.Program.{lineOffset}
+use Rattle.task.specs.declared.bounds.Bounds.{Bounds}
+use Rattle.task.specs.declared.index.Index.{Index}
+use Rattle.task.specs.declared.instruction.Decoded.{Decoded}
+use Rattle.task.specs.declared.instruction.Decoded.the-variants.{Is, Nothing}
+use Rattle.task.specs.declared.instruction.Instruction.{Instruction}
+use Rattle.task.specs.declared.instruction.Line.{Line}
+use Rattle.task.specs.declared.instruction.Proc.{Proc}
+use Rattle.task.specs.declared.instruction.Triple.{Triple}
+use Rattle.task.specs.declared.verdict.Verdict.the-variants.{Accepted, Refused}
+use Rattle.task.proofs.Laws.Instruction.{keep-is, decode-allowed, encode-decode}
+use Rattle.task.proofs.Laws.Verdict.{refused-accepted}
+use Rattle.step.specs.Perform.{perform, unchanged, answered}
+use Rattle.step.specs.Position.{sameFrame, top}
+use Rattle.step.specs.Possible.{possible}
+use Rattle.step.specs.Questions.{STEPS}
+use Rattle.step.specs.Ready.{Bounded, Open, Ready}
+use Rattle.step.specs.declared.perform.Stepped.{Stepped}
+use Rattle.step.specs.declared.position.Frame.{Frame}
+use Rattle.step.specs.declared.position.Position.{Position}
+use Rattle.step.proofs.Laws.Possible.{parts, case-open}
+use Rattle.checker.specs.Check.{Followed, lineFits, written, onMove, onStep, onDecoded, stepTurn, closeTurn, onRecord, turnOf}
+use Rattle.checker.specs.Outcome.{state, turned}
+use Rattle.checker.specs.Plan.{instructionOf, stepOf, isKind, lengthFits, frameAt}
+use Rattle.checker.specs.Questions.{PLAN-RECORD, PLAN-KIND, PLAN-LENGTH, ALLOWED, OPEN, TOP, LINE, FINISHED, PLAN-CLOSED}
+use Rattle.checker.specs.declared.check.Outcome.the-variants.{Next, Stopped, Closed}
+use Rattle.checker.specs.declared.plan.Step.{Step}
+
+-- frames with the same procedure and the same line are the same
+pub frame-is : {f g : Frame} → f .procedure .0 ≡ g .procedure .0 → f .line .0 ≡ g .line .0 → f ≡ g
+frame-is p l = λ i. record { procedure = record { 0 = p i }; line = record { 0 = l i } }
+
+-- which is what question 17 asks
+pub same-frame : (f g : Frame) → sameFrame f g ≡ true → f ≡ g
+unfolding sameFrame
+same-frame f g h =
+    let both = both-true (eqb (f .procedure .0) (g .procedure .0)) _ h in
+    frame-is (eqb-true _ _ (both .0)) (eqb-true _ _ (both .1))
+
+-- the step of a record runs the record's instruction
+pub step-instruction : (kind : ℕ) (w : Instruction) → instructionOf (stepOf kind w) ≡ w
+unfolding instructionOf stepOf
+step-instruction kind w = cond-either (λ (x : Step). instructionOf x ≡ w) (eqb kind 16) _ _ (λ h. refl) (λ h. refl)
+
+-- an instruction decoded by question 15 is allowed on its line, and has the bytes that it was decoded from
+module _ (b : Bounds) (actions : ℕ) (procedure : Proc) (line : Line) (t : Triple) (w : Instruction) (h : decodeFor b actions procedure line t ≡ Is w) where
+  pub decoded-allowed : allowed b actions line w ≡ true
+  unfolding decodeFor
+  decoded-allowed = decode-allowed b actions line t w (keep-is _ _ w h .1)
+
+  pub decoded-encodes : encode w ≡ t
+  unfolding decodeFor
+  decoded-encodes = encode-decode b actions line t w (keep-is _ _ w h .1)
+
+module _ (i : Index) (p : Position) (task : Bounded i) (h : possible i p ≡ true) where
+  -- with a case open, a possible position has a frame
+  pub position-open : p .case < i .cases → Open i p
+  position-open o =
+      record { task = task; possible = h; unfinished = case-open i p (parts i p h .depth) (omega arith) }
+
+  -- a step that questions 14 to 17 let pass can be performed
+  pub step-ready : p .case < i .cases → p .steps < i .bounds .steps → (f g : Frame) → g ≡ top p → (m : Bool) → m ≡ sameFrame f g → m ≡ true
+      → (step : Step) → allowed (i .bounds) (i .actions) (f .line) (instructionOf step) ≡ true → (w : Instruction) → w ≡ instructionOf step → Ready i p w
+  step-ready o few f g e m d y step a w ew =
+      let same : f ≡ top p = same-frame f g (sym d ∙ y) ∙ e in
+      record { standing = position-open o; left = few; allowed = rw (ew, ← same) a }
+
+-- the closing record
+module _ (i : Index) (plan : List ℕ) (at : ℕ) (p : Position) (program : List ℕ) (next : ℕ) where
+  pub cases-left : (p .case ≡ i .cases → ⊥) → turned (Stopped FINISHED at) p program ≡ closeTurn i plan (state at p program) next
+  unfolding turned closeTurn
+  cases-left h = ask-no _ _ _ (ne-eqb (p .case) (i .cases) h)
+
+  module _ (h : p .case ≡ i .cases) where
+    pub bytes-left : (next ≡ length plan → ⊥) → turned (Stopped PLAN-CLOSED next) p program ≡ closeTurn i plan (state at p program) next
+    unfolding turned closeTurn
+    bytes-left n = ask-no _ _ _ (ne-eqb next (length plan) n) ∙ ask-yes _ _ _ (eq-eqb (p .case) (i .cases) h)
+
+    pub closes : next ≡ length plan → turned Closed p program ≡ closeTurn i plan (state at p program) next
+    unfolding turned closeTurn
+    closes n = ask-yes _ _ _ (eq-eqb next (length plan) n) ∙ ask-yes _ _ _ (eq-eqb (p .case) (i .cases) h)
+
+-- an instruction's own answer `r`
+module _ (bytes : List ℕ) (i : Index) (offsets : List ℕ) (at next : ℕ) (p : Position) (program : List ℕ) (w : Instruction) (r : Stepped)
+    (e : r ≡ answered p (perform bytes i offsets p w)) where
+  pub step-made : (value : ℕ) → r .verdict ≡ Accepted value
+      → turned (Next next) (r .position) program ≡ onMove at next program (perform bytes i offsets p w)
+  unfolding turned onMove answered unchanged
+  step-made value h = by (perform bytes i offsets p w) e
+    where
+      by : (u : Turn Position ℕ) → r ≡ answered p u → turned (Next next) (r .position) program ≡ onMove at next program u
+      by (stop question) f = absurd (refused-accepted (rw f at h))
+      by (go position) f = rw f refl
+
+  pub step-refused : (question place : ℕ) → r .verdict ≡ Refused question place
+      → turned (Stopped question at) (r .position) program ≡ onMove at next program (perform bytes i offsets p w)
+  unfolding turned onMove answered unchanged
+  step-refused question place h = by (perform bytes i offsets p w) e
+    where
+      by : (u : Turn Position ℕ) → r ≡ answered p u → turned (Stopped question at) (r .position) program ≡ onMove at next program u
+      by (stop q) f = let k : Refused q (p .steps) ≡ Refused question place = rw f at h in cc
+      by (go position) f = absurd (refused-accepted (sym (rw f at h)))
+
+module _ (bytes : List ℕ) (i : Index) (offsets : List ℕ) (at : ℕ) (p : Position) (program : List ℕ) (next : ℕ) where
+  -- a step at a frame `f`: `g` is the top frame, `m` says whether they are the same
+  module _ (f : Frame) (step : Step) where
+    pub none-open : i .cases ≤ p .case → turned (Stopped OPEN at) p program ≡ onStep bytes i offsets (state at p program) next f step
+    unfolding turned onStep
+    none-open h = ask-no _ _ _ (le-ltb (p .case) (i .cases) h)
+
+    module _ (o : p .case < i .cases) (g : Frame) (e : g ≡ top p) (m : Bool) (d : m ≡ sameFrame f g) where
+      pub another-line : m ≡ false → turned (Stopped TOP at) p program ≡ onStep bytes i offsets (state at p program) next f step
+      unfolding turned onStep
+      another-line h = ask-no _ _ _ (cc) ∙ ask-yes _ _ _ (lt-ltb (p .case) (i .cases) o)
+
+      -- `held` is on the line, `l` says whether the step fits it
+      module _ (y : m ≡ true) (offset : ℕ) (eo : offset ≡ lineOffset (i .bounds) (f .procedure) (f .line)) (held : Triple)
+          (eh : held ≡ tripleAt program offset) (l : Bool) (el : l ≡ lineFits held step) where
+        pub line-differs : l ≡ false → turned (Stopped LINE at) p program ≡ onStep bytes i offsets (state at p program) next f step
+        unfolding turned onStep
+        line-differs h = ask-no _ _ _ (cc) ∙ ask-yes _ _ _ (cc) ∙ ask-yes _ _ _ (lt-ltb (p .case) (i .cases) o)
+
+        pub step-taken : l ≡ true → (after : List ℕ) → after ≡ written program offset step → (w : Instruction) → w ≡ instructionOf step
+            → (t : Turn _ Followed) → t ≡ onMove at next after (perform bytes i offsets p w)
+            → t ≡ onStep bytes i offsets (state at p program) next f step
+        unfolding onStep
+        step-taken h after ea w ew t et =
+            et ∙ cc (ea, ew, eo) ∙ ask-yes _ _ _ (cc) ∙ ask-yes _ _ _ (cc) ∙ ask-yes _ _ _ (lt-ltb (p .case) (i .cases) o)
+
+  -- a step's record
+  module _ (plan : List ℕ) (kind body : ℕ) where
+    pub steps-used : i .bounds .steps ≤ p .steps
+        → turned (Stopped STEPS at) p program ≡ stepTurn bytes i offsets (state at p program) plan kind body next
+    unfolding turned stepTurn
+    steps-used h = ask-no _ _ _ (le-ltb (p .steps) (i .bounds .steps) h)
+
+    module _ (few : p .steps < i .bounds .steps) (f : Frame) (procedure : f .procedure .0 ≡ byteAt plan body)
+        (line : f .line .0 ≡ byteAt plan (body + 1)) (w : Triple) (ew : w ≡ tripleAt plan (body + 2)) (d : Decoded)
+        (ed : d ≡ decodeFor (i .bounds) (i .actions) (f .procedure) (f .line) w) where
+      on-decoded : onDecoded bytes i offsets (state at p program) kind next f d ≡ stepTurn bytes i offsets (state at p program) plan kind body next
+      unfolding stepTurn frameAt
+      on-decoded = rw (ed, ew, ← procedure, ← line) (ask-yes _ _ _ (lt-ltb (p .steps) (i .bounds .steps) few))
+
+      pub none-decoded : d ≡ Nothing → turned (Stopped ALLOWED at) p program ≡ stepTurn bytes i offsets (state at p program) plan kind body next
+      unfolding turned onDecoded
+      none-decoded h = rw h at on-decoded
+
+      pub step-decoded : (x : Instruction) → d ≡ Is x → (step : Step) → step ≡ stepOf kind x
+          → (t : Turn _ Followed) → t ≡ onStep bytes i offsets (state at p program) next f step
+          → t ≡ stepTurn bytes i offsets (state at p program) plan kind body next
+      unfolding onDecoded
+      step-decoded x h step es t et = et ∙ cc (es) ∙ rw h at on-decoded
+
+module _ (bytes : List ℕ) (i : Index) (offsets plan : List ℕ) (at : ℕ) (p : Position) (program : List ℕ) where
+  -- the record that `f` found at the offset
+  module _ (f : Found) (e : f ≡ recordAt plan at) where
+    pub record-missing : f ≡ Missing → turned (Stopped PLAN-RECORD at) p program ≡ turnOf bytes i offsets plan (state at p program)
+    unfolding turned turnOf onRecord
+    record-missing h = rw (← e, h)
+
+    module _ (kind body size next : ℕ) (r : f ≡ Record kind body size next) where
+      on-record : onRecord bytes i offsets plan (state at p program) (Record kind body size next) ≡ turnOf bytes i offsets plan (state at p program)
+      unfolding turnOf
+      on-record = rw (← e, r) refl
+
+      module _ (k : Bool) (ek : k ≡ isKind kind) where
+        pub another-kind : k ≡ false → turned (Stopped PLAN-KIND at) p program ≡ turnOf bytes i offsets plan (state at p program)
+        unfolding turned onRecord
+        another-kind h = ask-no _ _ _ (sym ek ∙ h) ∙ on-record
+
+        module _ (y : k ≡ true) (l : Bool) (el : l ≡ lengthFits kind size) where
+          pub length-differs : l ≡ false → turned (Stopped PLAN-LENGTH at) p program ≡ turnOf bytes i offsets plan (state at p program)
+          unfolding turned onRecord
+          length-differs h = ask-no _ _ _ (sym el ∙ h) ∙ ask-yes _ _ _ (sym ek ∙ y) ∙ on-record
+
+          module _ (z : l ≡ true) (t : Turn _ Followed) where
+            pub closing-record : kind ≡ 5 → t ≡ closeTurn i plan (state at p program) next → t ≡ turnOf bytes i offsets plan (state at p program)
+            unfolding onRecord
+            closing-record h d =
+                d ∙ cond-yes _ true _ _ (sym (eq-eqb kind 5 h)) refl ∙ ask-yes _ _ _ (sym el ∙ z) ∙ ask-yes _ _ _ (sym ek ∙ y) ∙ on-record
+
+            pub step-record : (kind ≡ 5 → ⊥) → t ≡ stepTurn bytes i offsets (state at p program) plan kind body next
+                → t ≡ turnOf bytes i offsets plan (state at p program)
+            unfolding onRecord
+            step-record h d =
+                d ∙ cond-no _ false _ _ (sym (ne-eqb kind 5 h)) refl ∙ ask-yes _ _ _ (sym el ∙ z) ∙ ask-yes _ _ _ (sym ek ∙ y) ∙ on-record
+
+-- a step's body is in the plan
+pub step-there : (plan : List ℕ) (at : ℕ) (f : Found) → f ≡ recordAt plan at → (kind body size next : ℕ) → f ≡ Record kind body size next
+    → lengthFits kind size ≡ true → (kind ≡ 5 → ⊥) → body + 5 ≤ length plan
+unfolding lengthFits
+step-there plan at f e kind body size next r l n =
+    omega (arith, record-ends plan at kind body size next (sym e ∙ r), eqb-true size 5 (rw (ne-eqb kind 5 n) at l))

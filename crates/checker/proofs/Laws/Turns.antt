@@ -1,0 +1,282 @@
+-- The plan, record by record. A turn that goes on has read a step, and every question about it has said yes; one that accepts has read the
+-- closing record at the end of the plan. So a turn that goes on goes to an offset behind its own, and the loop's law applies: what the plan
+-- comes to from here on is one turn, and then what it comes to from there on. And it keeps the position possible.
+-- Assumes nothing.
+use Prim.Native.Nat.{ℕ, _+_, _-_, _<_}
+use mathlib.Core.Path.{_≡_, refl, sym, ap, _∙_}
+use mathlib.Core.Bool.{Bool, true, false}
+use mathlib.Core.List.{List}
+use native.Mathlib.Omega.{arith}
+use lib.Dec.{eqb}
+use lib.ListN.{length}
+use borrow.Author.Tests.{ltb-true, eqb-true, lt-ltb, eq-eqb}
+use Rattle.records.specs.Loop.{Turn, stop, go, ask, after, loop}
+use Rattle.records.specs.Record.{recordAt}
+use Rattle.records.specs.declared.record.Found.{Found}
+use Rattle.records.specs.declared.record.Found.the-variants.{Record, Missing}
+use Rattle.records.proofs.Laws.Loop.{Keeps, ask-keeps, unroll}
+use Rattle.records.proofs.Laws.Record.{record-ends}
+use Rattle.records.proofs.Laws.Tests.{cond-either}
+use Rattle.task.specs.Instruction.{decodeFor, tripleAt}
+use Rattle.task.specs.Program.{lineOffset}
+use Rattle.task.specs.declared.index.Index.{Index}
+use Rattle.task.specs.declared.index.Task.{Task}
+use Rattle.task.specs.declared.instruction.Decoded.{Decoded}
+use Rattle.task.specs.declared.instruction.Decoded.the-variants.{Is, Nothing}
+use Rattle.task.specs.declared.instruction.Instruction.{Instruction}
+use Rattle.task.proofs.Laws.Passed.{Passed, passed}
+use Rattle.step.specs.Perform.{perform}
+use Rattle.step.specs.Position.{sameFrame, top}
+use Rattle.step.specs.Possible.{possible}
+use Rattle.step.specs.declared.position.Frame.{Frame}
+use Rattle.step.specs.declared.position.Position.{Position}
+use Rattle.step.proofs.Laws.Kept.{step-possible}
+use Rattle.step.proofs.Laws.Possible.{parts, case-open}
+use Rattle.checker.specs.Check.{State, Followed, refused, accepted, lineFits, written, onMove, onStep, onDecoded, stepTurn, closeTurn, onRecord, turnOf, left, begin, follow}
+use Rattle.checker.specs.Outcome.{ReadAs, state, turned}
+use Rattle.checker.specs.Plan.{stepOf, isKind, lengthFits, frameAt}
+use Rattle.checker.specs.Questions.{PLAN-RECORD}
+use Rattle.checker.specs.declared.check.Outcome.{Outcome}
+use Rattle.checker.specs.declared.check.Outcome.the-variants.{Next, Stopped, Closed}
+use Rattle.checker.proofs.Laws.Check.{same-frame, step-instruction, decoded-allowed}
+
+refused-accepted : {question place steps : ℕ} {program : List ℕ} → refused question place ≡ accepted steps program → ⊥
+refused-accepted h = let z : _≡_ {A = ℕ} 0 1 = cc in omega arith
+
+module _ (bytes : List ℕ) (i : Index) (offsets plan : List ℕ) (s : State) where
+  -- a step's record at the offset: questions 11 to 13 say yes
+  pub record StepRecord (kind body size next : ℕ) : Type 0 where
+    pub found : recordAt plan (s .at) ≡ Record kind body size next
+    pub known : isKind kind ≡ true
+    pub fits : lengthFits kind size ≡ true
+    pub step : eqb kind 5 ≡ false
+
+  -- a step that is taken at frame `f`: questions 14 to 22 say yes, and the run goes on to a position
+  pub record Taken (kind body : ℕ) (f : Frame) (w : Instruction) (position : Position) : Type 0 where
+    pub few : s .position .steps < i .bounds .steps
+    pub decoded : decodeFor (i .bounds) (i .actions) (f .procedure) (f .line) (tripleAt plan (body + 2)) ≡ Is w
+    pub case : s .position .case < i .cases
+    pub here : sameFrame f (top (s .position)) ≡ true
+    pub line : lineFits (tripleAt (s .program) (lineOffset (i .bounds) (f .procedure) (f .line))) (stepOf kind w) ≡ true
+    pub moves : perform bytes i offsets (s .position) w ≡ go position
+
+  -- the state that a taken step leads to
+  abbrev pub reached : ℕ → ℕ → Frame → Instruction → Position → State
+  reached kind next f w position =
+      record {
+        at = next;
+        position = position;
+        program = written (s .program) (lineOffset (i .bounds) (f .procedure) (f .line)) (stepOf kind w);
+      }
+
+  -- a turn that goes on: it read a step, and took it
+  pub record Went (t : State) : Type 0 where
+    pub kind : ℕ
+    pub body : ℕ
+    pub size : ℕ
+    pub next : ℕ
+    pub instruction : Instruction
+    pub position : Position
+    pub read : StepRecord kind body size next
+    pub taken : Taken kind body (frameAt plan body) instruction position
+    pub to : t ≡ reached kind next (frameAt plan body) instruction position
+
+  -- a turn that accepts: it read the closing record, where the plan ends, and all cases are finished
+  pub record Ends (steps : ℕ) (program : List ℕ) : Type 0 where
+    pub kind : ℕ
+    pub body : ℕ
+    pub size : ℕ
+    pub next : ℕ
+    pub found : recordAt plan (s .at) ≡ Record kind body size next
+    pub known : isKind kind ≡ true
+    pub fits : lengthFits kind size ≡ true
+    pub closing : eqb kind 5 ≡ true
+    pub case : s .position .case ≡ i .cases
+    pub end : next ≡ length plan
+    pub count : steps ≡ s .position .steps
+    pub same : program ≡ s .program
+
+  -- what an answer says if it accepts
+  abbrev Ended : Followed → Type 0
+  Ended a = (steps : ℕ) (program : List ℕ) → a ≡ accepted steps program → Ends steps program
+
+  abbrev Says : Turn State Followed → Type 0
+  Says = Keeps Went Ended
+
+  refusal-says : (question place : ℕ) → Ended (refused question place)
+  refusal-says question place steps program e = absurd (refused-accepted e)
+
+  ask-says : (answer : Bool) (question place : ℕ) (rest : Turn State Followed) → (answer ≡ true → Says rest) → Says (ask answer (refused question place) rest)
+  ask-says answer question place rest k = ask-keeps Went Ended answer _ rest (refusal-says question place) k
+
+  module _ (kind body size next : ℕ) where
+    move-says : StepRecord kind body size next → (w : Instruction)
+        → ((position : Position) → perform bytes i offsets (s .position) w ≡ go position → Taken kind body (frameAt plan body) w position)
+        → (u : Turn Position ℕ) → perform bytes i offsets (s .position) w ≡ u
+        → Says (onMove (s .at) next (reached kind next (frameAt plan body) w (s .position) .program) u)
+    unfolding onMove
+    move-says r w taken (stop question) e = refusal-says _ _
+    move-says r w taken (go position) e =
+        record {
+          kind = kind;
+          body = body;
+          size = size;
+          next = next;
+          instruction = w;
+          position = position;
+          read = r;
+          taken = taken position e;
+          to = refl;
+        }
+
+    decoded-says : StepRecord kind body size next → s .position .steps < i .bounds .steps → (d : Decoded)
+        → decodeFor (i .bounds) (i .actions) (frameAt plan body .procedure) (frameAt plan body .line) (tripleAt plan (body + 2)) ≡ d
+        → Says (onDecoded bytes i offsets s kind next (frameAt plan body) d)
+    unfolding onDecoded onStep
+    decoded-says r few Nothing e = refusal-says _ _
+    decoded-says r few (Is w) e =
+        ask-says _ _ _ _ λ case.
+        ask-says _ _ _ _ λ here.
+        ask-says _ _ _ _ λ line.
+        rw (step-instruction kind w)
+        (move-says r w (λ position m. record { few = few; decoded = e; case = ltb-true _ _ case; here = here; line = line; moves = m }) _ refl)
+
+    step-says : StepRecord kind body size next → Says (stepTurn bytes i offsets s plan kind body next)
+    unfolding stepTurn
+    step-says r = ask-says _ _ _ _ λ few. decoded-says r (ltb-true _ _ few) _ refl
+
+    close-says : recordAt plan (s .at) ≡ Record kind body size next → isKind kind ≡ true → lengthFits kind size ≡ true → eqb kind 5 ≡ true
+        → Says (closeTurn i plan s next)
+    unfolding closeTurn
+    close-says found known fits closing =
+        ask-says _ _ _ _ λ case.
+        ask-says _ _ _ _ λ end steps program e.
+        let k : s .position .steps ≡ steps = cc in
+        let p : s .program ≡ program = cc in
+        record {
+          kind = kind;
+          body = body;
+          size = size;
+          next = next;
+          found = found;
+          known = known;
+          fits = fits;
+          closing = closing;
+          case = eqb-true _ _ case;
+          end = eqb-true _ _ end;
+          count = sym k;
+          same = sym p;
+        }
+
+  record-says : (f : Found) → recordAt plan (s .at) ≡ f → Says (onRecord bytes i offsets plan s f)
+  unfolding onRecord
+  record-says Missing e = refusal-says _ _
+  record-says (Record kind body size next) e =
+      ask-says _ _ _ _ λ known.
+      ask-says _ _ _ _ λ fits.
+      cond-either Says (eqb kind 5) (closeTurn i plan s next) (stepTurn bytes i offsets s plan kind body next)
+      (λ closing. close-says kind body size next e known fits closing)
+      (λ step. step-says kind body size next (record { found = e; known = known; fits = fits; step = step }))
+
+  turn-says : Says (turnOf bytes i offsets plan s)
+  unfolding turnOf
+  turn-says = record-says (recordAt plan (s .at)) refl
+
+  -- a turn that goes on took a step, and a step that can be taken is
+  pub goes-went : (t : State) → turnOf bytes i offsets plan s ≡ go t → Went t
+  goes-went t e = rw e at turn-says
+
+  pub went-goes : (t : State) → Went t → turnOf bytes i offsets plan s ≡ go t
+  unfolding turnOf onRecord stepTurn onDecoded onStep onMove ask
+  went-goes t w =
+      let r = w .read in
+      let k = w .taken in
+      rw (r .found)
+      (simp (
+        r .known,
+        r .fits,
+        r .step,
+        lt-ltb _ _ (k .few),
+        k .decoded,
+        lt-ltb _ _ (k .case),
+        k .here,
+        k .line,
+        step-instruction (w .kind) (w .instruction),
+        k .moves,
+        w .to,
+      ))
+
+  -- a turn that accepts read the closing record, and the closing record at the end, with all cases finished, is accepted
+  pub accepts-ends : (steps : ℕ) (program : List ℕ) → turnOf bytes i offsets plan s ≡ stop (accepted steps program) → Ends steps program
+  accepts-ends steps program e = (rw e at turn-says) steps program refl
+
+  pub ends-accepts : (steps : ℕ) (program : List ℕ) → Ends steps program → turnOf bytes i offsets plan s ≡ stop (accepted steps program)
+  unfolding turnOf onRecord closeTurn ask
+  ends-accepts steps program e =
+      rw (e .found) (simp (e .known, e .fits, e .closing, eq-eqb _ _ (e .case), eq-eqb _ _ (e .end), e .count, e .same))
+
+  -- the next record is behind this one
+  pub falls : (t : State) → turnOf bytes i offsets plan s ≡ go t → left plan t < left plan s
+  falls t e =
+      let w = goes-went t e in
+      omega (arith, record-ends plan (s .at) (w .kind) (w .body) (w .size) (w .next) (w .read .found), ap (λ (u : State). u .at) (w .to))
+
+-- a possible position, with its 16 frames
+abbrev pub Standing : Index → Position → Type 0
+Standing i p = (possible i p ≡ true) × (length (p .frames) ≡ 16)
+
+-- what holds of a task that passes
+pub read-passed : (bytes : List ℕ) (t : Task) → ReadAs bytes t → Passed bytes t
+read-passed bytes t r = rw (r .task) at (passed bytes (r .value) (r .verdict))
+
+-- a turn that goes on leads to a possible position again
+pub turn-stands : (bytes : List ℕ) (t : Task) → Passed bytes t → (plan : List ℕ) (s u : State) → Standing (t .index) (s .position)
+    → turnOf bytes (t .index) (t .offsets) plan s ≡ go u → Standing (t .index) (u .position)
+turn-stands bytes t passed plan s u h e =
+    let w = goes-went bytes (t .index) (t .offsets) plan s u e in
+    let k = w .taken in
+    let p = s .position in
+    let above = case-open (t .index) p (parts (t .index) p (h .0) .depth) (omega (arith, k .case)) in
+    let line = decoded-allowed _ _ _ _ _ _ (k .decoded) in
+    let same = same-frame (frameAt plan (w .body)) (top p) (k .here) in
+    rw (w .to) (step-possible bytes t passed p (h .0) above (k .few) (h .1) (w .instruction) (rw same at line) (w .position) (k .moves))
+
+-- what the plan comes to from a state on
+unfoldable pub from : List ℕ → Index → List ℕ → List ℕ → State → Followed
+from bytes i offsets plan = loop (turnOf bytes i offsets plan) (left plan) (refused PLAN-RECORD 0)
+
+module _ (bytes : List ℕ) (i : Index) (offsets plan : List ℕ) where
+  pub from-begin : (presets : List ℕ)
+      → from bytes i offsets plan (begin bytes i presets) ≡ follow bytes (record { index = i; offsets = offsets; presets = presets }) plan
+  unfolding from follow
+  from-begin presets = refl
+
+  -- one turn, and then the rest
+  pub from-turn : (s : State) → from bytes i offsets plan s ≡ after (turnOf bytes i offsets plan s) (from bytes i offsets plan)
+  unfolding from
+  from-turn s = unroll (turnOf bytes i offsets plan) (left plan) (refused PLAN-RECORD 0) (falls bytes i offsets plan) s
+
+  -- one record more: its outcome, with the position and the program as they are then
+  module _ (s : State) (outcome : Outcome) (p : Position) (program : List ℕ) (e : turned outcome p program ≡ turnOf bytes i offsets plan s) where
+    pub next-goes : (at : ℕ) → outcome ≡ Next at → turnOf bytes i offsets plan s ≡ go (state at p program)
+    unfolding turned
+    next-goes at h = sym (rw h at e)
+
+    pub next-falls : (at : ℕ) → outcome ≡ Next at → length plan - at < left plan s
+    next-falls at h = falls bytes i offsets plan s _ (next-goes at h)
+
+    module _ (whole : Followed) (r : from bytes i offsets plan s ≡ whole) where
+      rest : after (turned outcome p program) (from bytes i offsets plan) ≡ whole
+      rest = ap (λ (t : Turn State Followed). after t (from bytes i offsets plan)) e ∙ sym (from-turn s) ∙ r
+
+      pub from-next : (at : ℕ) → outcome ≡ Next at → from bytes i offsets plan (state at p program) ≡ whole
+      unfolding turned after
+      from-next at h = rw h at rest
+
+      pub from-stopped : (question place : ℕ) → outcome ≡ Stopped question place → refused question place ≡ whole
+      unfolding turned after
+      from-stopped question place h = rw h at rest
+
+      pub from-closed : outcome ≡ Closed → accepted (p .steps) program ≡ whole
+      unfolding turned after
+      from-closed h = rw h at rest

@@ -1,0 +1,126 @@
+-- `checker::check::follow_record` meets its contract: questions 11 to 13 decide, and then what the kind asks.
+-- Assumes nothing.
+use mathlib.Core.Path.{sym, _∙_}
+use borrow.Author.Tests.{not-true, not-false}
+use Rattle.checker.proofs.Laws.Check.{record-missing, another-kind, length-differs, closing-record, step-record, step-there}
+use borrow.Author.Needs.{needs}
+use Rattle.checker.proofs.check.follow_record.Statement.{statement}
+use Rattle.checker.proofs.check.follow_record.Tie as tie
+
+record-at-requires : tie.Need-record-at-requires
+record-at-requires c κs = search needs
+
+enum-known-found : tie.Need-enum-known-found
+enum-known-found c = search needs
+
+enum-told : tie.Need-enum-told
+enum-told c = search needs
+
+stopped-requires : tie.Need-stopped-requires
+stopped-requires c κs = search needs
+
+returns : tie.Need-returns
+returns c =
+    let at-enum-told = c .before in
+    let at-record-at = at-enum-told .before .before in
+    rw (c .stopped .ensures) (record-missing _ _ _ _ _ _ _ _ (at-record-at .record-at .ensures) (at-enum-told .enum-told .given .1))
+
+is-kind-requires : tie.Need-is-kind-requires
+is-kind-requires c κs = search needs
+
+stopped-requires-2 : tie.Need-stopped-requires-2
+stopped-requires-2 c κs = search needs
+
+returns-2 : tie.Need-returns-2
+returns-2 c =
+    let at-if1 = c .before in
+    let at-is-kind = at-if1 .before in
+    let at-found = at-is-kind .before .before in
+    let at-record-at = at-found .before .before in
+    rw (c .stopped2 .ensures)
+    (another-kind _ _ _ _ _ _ _ _ (at-record-at .record-at .ensures) _ _ _ _ (at-found .found .given .1) _ (at-is-kind .is-kind .ensures)
+    (not-true _ (at-if1 .if1 .taken)))
+
+length-fits-requires : tie.Need-length-fits-requires
+length-fits-requires c κs = search needs
+
+stopped-requires-3 : tie.Need-stopped-requires-3
+stopped-requires-3 c κs = search needs
+
+returns-3 : tie.Need-returns-3
+returns-3 c =
+    let at-if2 = c .before in
+    let at-length-fits = at-if2 .before in
+    let at-if1 = at-length-fits .before in
+    let at-is-kind = at-if1 .before in
+    let at-found = at-is-kind .before .before in
+    let at-record-at = at-found .before .before in
+    rw (c .stopped3 .ensures)
+    (length-differs _ _ _ _ _ _ _ _ (at-record-at .record-at .ensures) _ _ _ _ (at-found .found .given .1) _ (at-is-kind .is-kind .ensures)
+    (not-false _ (at-if1 .if1 .left)) _
+    (at-length-fits .length-fits .ensures) (not-true _ (at-if2 .if2 .taken)))
+
+close-requires : tie.Need-close-requires
+close-requires c κs = search needs
+
+returns-4 : tie.Need-returns-4
+returns-4 c =
+    let at-if3 = c .before in
+    let at-if2 = at-if3 .before in
+    let at-length-fits = at-if2 .before in
+    let at-if1 = at-length-fits .before in
+    let at-is-kind = at-if1 .before in
+    let at-found = at-is-kind .before .before in
+    let at-record-at = at-found .before .before in
+    closing-record _ _ _ _ _ _ _ _ (at-record-at .record-at .ensures) _ _ _ _ (at-found .found .given .1) _ (at-is-kind .is-kind .ensures)
+    (not-false _ (at-if1 .if1 .left)) _
+    (at-length-fits .length-fits .ensures) (not-false _ (at-if2 .if2 .left)) _ (at-if3 .if3 .taken) (c .close .ensures _)
+
+follow-step-requires : tie.Need-follow-step-requires
+follow-step-requires c κs =
+    let at-if3 = c .before in
+    let at-if2 = at-if3 .before in
+    let at-length-fits = at-if2 .before in
+    let at-found = at-length-fits .before .before .before .before in
+    let at-record-at = at-found .before .before in
+    let at-start = at-record-at .before .before .before .before in
+    let fits = sym (at-length-fits .length-fits .ensures) ∙ not-false _ (at-if2 .if2 .left) in
+    (at-start .pre .0, at-start .pre .1, step-there _ _ _ (at-record-at .record-at .ensures) _ _ _ _ (at-found .found .given .1) fits (at-if3 .if3 .left))
+
+same-length : tie.Need-same-length
+same-length c = search needs
+
+returns-5 : tie.Need-returns-5
+returns-5 c =
+    let at-follow-step = c .before .before in
+    let at-if3 = at-follow-step .before .before in
+    let at-if2 = at-if3 .before in
+    let at-length-fits = at-if2 .before in
+    let at-if1 = at-length-fits .before in
+    let at-is-kind = at-if1 .before in
+    let at-found = at-is-kind .before .before in
+    let at-record-at = at-found .before .before in
+    step-record _ _ _ _ _ _ _ _ (at-record-at .record-at .ensures) _ _ _ _ (at-found .found .given .1) _ (at-is-kind .is-kind .ensures)
+    (not-false _ (at-if1 .if1 .left)) _
+    (at-length-fits .length-fits .ensures) (not-false _ (at-if2 .if2 .left)) _ (at-if3 .if3 .left) (at-follow-step .follow-step .ensures)
+
+pub follow-record-spec : {M : Type 1} → statement M
+follow-record-spec =
+    tie.close
+    (tie.spec
+    record-at-requires
+    enum-known-found
+    enum-told
+    stopped-requires
+    returns
+    is-kind-requires
+    stopped-requires-2
+    returns-2
+    length-fits-requires
+    stopped-requires-3
+    returns-3
+    close-requires
+    returns-4
+    follow-step-requires
+    same-length
+    returns-5)

@@ -1,0 +1,4 @@
+pub mod Check
+pub mod Outcome
+pub mod Plan
+pub mod Questions

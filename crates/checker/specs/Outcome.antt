@@ -1,0 +1,34 @@
+-- How the checker's own answers stand to the definitions. Only contracts of private functions cite it.
+use Prim.Native.Nat.{ℕ}
+use mathlib.Core.Path.{_≡_}
+use mathlib.Core.List.{List}
+use Rattle.records.specs.Loop.{Turn, stop, go}
+use Rattle.task.specs.Reading.{readTask}
+use Rattle.task.specs.declared.index.Task.{Task}
+use Rattle.task.specs.declared.verdict.Verdict.{Verdict}
+use Rattle.task.specs.declared.verdict.Verdict.the-variants.{Accepted, Refused}
+use Rattle.step.specs.declared.position.Position.{Position}
+use Rattle.checker.specs.Check.{State, Followed, refused, accepted}
+use Rattle.checker.specs.declared.check.Outcome.{Outcome}
+use Rattle.checker.specs.declared.check.Outcome.the-variants.{Next, Stopped, Closed}
+
+-- a task file that passes, and what was read from it
+pub record ReadAs (bytes : List ℕ) (t : Task) : Type 0 where
+  pub value : ℕ
+  pub verdict : readTask bytes .verdict ≡ Accepted value
+  pub task : readTask bytes .task ≡ t
+
+-- the checker's state, from the three parts that it holds
+abbrev pub state : ℕ → Position → List ℕ → State
+state at position program = record { at = at; position = position; program = program }
+
+-- the turn that an outcome stands for, given the position and the program after it
+unfoldable pub turned : Outcome → Position → List ℕ → Turn State Followed
+turned (Next at) position program = go (state at position program)
+turned (Stopped question place) position program = stop (refused question place)
+turned Closed position program = stop (accepted (position .steps) program)
+
+-- the outcome of a plan, by its verdict and the program at the end
+unfoldable pub followedBy : Verdict → List ℕ → Followed
+followedBy (Refused question place) program = refused question place
+followedBy (Accepted steps) program = accepted steps program
