@@ -1,0 +1,87 @@
+-- The three bytes of a line: an instruction is determined by them, only the empty one has 0 as its first, and the test of two triples is
+-- whether they are the same. Three bytes put on a line are there, and those of every other line stay, because a line begins at a multiple of 3.
+-- Assumes nothing.
+use Prim.Native.Nat.{ℕ, _+_, _*_, _/_, _≤_}
+use mathlib.Core.Path.{_≡_, refl, sym, ap, _∙_}
+use mathlib.Core.Bool.{true, _&&_}
+use mathlib.Core.List.{List}
+use native.Mathlib.Omega.{arith}
+use lib.ListN.{length, set, length-set}
+use lib.Seq.{getD-set-same, getD-set-other}
+use lib.Dec.{eqb}
+use borrow.Author.Tests.{eqb-true, eq-eqb}
+use Rattle.records.specs.Numbers.{byteAt}
+use Rattle.records.proofs.Laws.Tests.{both-true}
+use Rattle.task.specs.Instruction.{keep, spelled, encode, tripleAt, withTriple}
+use Rattle.task.specs.Program.{sameTriple}
+use Rattle.task.specs.declared.instruction.Triple.{Triple}
+use Rattle.task.specs.declared.instruction.Instruction.{Instruction}
+use Rattle.task.specs.declared.instruction.Instruction.the-variants.{Empty, Act, Goto, Call, End}
+use Rattle.task.specs.declared.instruction.Decoded.the-variants.{Is}
+
+-- an instruction is determined by its three bytes
+pub spelled-encode : (w : Instruction) → spelled (encode w) ≡ Is w
+unfolding spelled encode keep
+spelled-encode Empty = refl
+spelled-encode (Act action) = refl
+spelled-encode (Goto target fact) = refl
+spelled-encode (Call procedure) = refl
+spelled-encode End = refl
+
+pub encode-injective : (v w : Instruction) → encode v ≡ encode w → v ≡ w
+encode-injective v w e =
+    let s : Is v ≡ Is w = sym (spelled-encode v) ∙ ap spelled e ∙ spelled-encode w in
+    cc
+
+-- only the empty instruction's first byte is 0
+pub op-empty : (w : Instruction) → encode w .op ≡ 0 → w ≡ Empty
+unfolding encode
+op-empty Empty e = refl
+op-empty (Act action) e = absurd (omega arith)
+op-empty (Goto target fact) e = absurd (omega arith)
+op-empty (Call procedure) e = absurd (omega arith)
+op-empty End e = absurd (omega arith)
+
+triple-is : {v w : Triple} → v .op ≡ w .op → v .p ≡ w .p → v .q ≡ w .q → v ≡ w
+triple-is e f g = λ i. record { op = e i; p = f i; q = g i }
+
+-- the test of three bytes, one after the other, is whether they are the same
+pub same-triple : (v w : Triple) → sameTriple v w ≡ true → v ≡ w
+unfolding sameTriple
+same-triple v w h =
+    let k = both-true (eqb (v .op) (w .op) && eqb (v .p) (w .p)) _ h in
+    let l = both-true (eqb (v .op) (w .op)) _ (k .0) in
+    triple-is (eqb-true _ _ (l .0)) (eqb-true _ _ (l .1)) (eqb-true _ _ (k .1))
+
+pub triple-same : (w : Triple) → sameTriple w w ≡ true
+unfolding sameTriple
+triple-same w = simp (eq-eqb (w .op) (w .op) refl, eq-eqb (w .p) (w .p) refl, eq-eqb (w .q) (w .q) refl)
+
+-- three bytes put on line number k are there, and those of every other line stay
+module _ (program : List ℕ) (k : ℕ) (w : Triple) where
+  pub put-here : 3 * k + 3 ≤ length program → tripleAt (withTriple program (3 * k) w) (3 * k) ≡ w
+  unfolding tripleAt withTriple
+  put-here h =
+      let at = 3 * k in
+      let first = set program at (w .op) in
+      let second = set first (at + 1) (w .p) in
+      let f : length first ≡ length program = length-set program at (w .op) in
+      let s : length second ≡ length first = length-set first (at + 1) (w .p) in
+      triple-is
+      (getD-set-other second (at + 2) at (w .q) 0 (omega arith)
+      ∙ getD-set-other first (at + 1) at (w .p) 0 (omega arith)
+      ∙ getD-set-same program at (w .op) 0 (omega arith))
+      (getD-set-other second (at + 2) (at + 1) (w .q) 0 (omega arith) ∙ getD-set-same first (at + 1) (w .p) 0 (omega arith))
+      (getD-set-same second (at + 2) (w .q) 0 (omega arith))
+
+  byte-kept : (at : ℕ) → (at / 3 ≡ k → ⊥) → byteAt (withTriple program (3 * k) w) at ≡ byteAt program at
+  unfolding withTriple
+  byte-kept at n =
+      getD-set-other (set (set program (3 * k) (w .op)) (3 * k + 1) (w .p)) (3 * k + 2) at (w .q) 0 (omega arith)
+      ∙ getD-set-other (set program (3 * k) (w .op)) (3 * k + 1) at (w .p) 0 (omega arith)
+      ∙ getD-set-other program (3 * k) at (w .op) 0 (omega arith)
+
+  pub put-other : (l : ℕ) → (l ≡ k → ⊥) → tripleAt (withTriple program (3 * k) w) (3 * l) ≡ tripleAt program (3 * l)
+  unfolding tripleAt
+  put-other l n =
+      triple-is (byte-kept (3 * l) (omega arith)) (byte-kept (3 * l + 1) (omega arith)) (byte-kept (3 * l + 2) (omega arith))
