@@ -6,6 +6,15 @@ use std::process::ExitCode;
 extern "C" {
     // A `&[u8]` passes as a pointer and then a length. Returns number * 2^32 + value.
     fn pp_check_task(task: *const u8, task_len: usize) -> u64;
+    // A plan that is accepted leaves its program in the first bytes of `program`.
+    fn pp_check_plan(
+        task: *const u8,
+        task_len: usize,
+        plan: *const u8,
+        plan_len: usize,
+        program: *mut u8,
+        program_len: usize,
+    ) -> u64;
 }
 
 /// An answer as the vectors write it: number and value.
@@ -23,6 +32,14 @@ fn bytes(word: &str) -> Vec<u8> {
         .collect()
 }
 
+/// The other way round: the word for some bytes.
+fn word(bytes: &[u8]) -> String {
+    if bytes.is_empty() {
+        return "-".to_string();
+    }
+    bytes.iter().map(|byte| format!("{byte:02x}")).collect()
+}
+
 /// The library's answer to a request, or nothing where it has no entry for it.
 fn answer(request: &str) -> Option<String> {
     let words: Vec<&str> = request.split(' ').collect();
@@ -31,6 +48,22 @@ fn answer(request: &str) -> Option<String> {
             let task = bytes(words[1]);
             // SAFETY: the pointer and the length are those of a live slice, which the call only reads.
             Some(shown(unsafe { pp_check_task(task.as_ptr(), task.len()) }))
+        }
+        "check" => {
+            let (task, plan) = (bytes(words[1]), bytes(words[2]));
+            let mut program = bytes(words[3]);
+            // SAFETY: the pointers and the lengths are those of live slices. The call reads the first two and writes to the third alone.
+            let packed = unsafe {
+                pp_check_plan(
+                    task.as_ptr(),
+                    task.len(),
+                    plan.as_ptr(),
+                    plan.len(),
+                    program.as_mut_ptr(),
+                    program.len(),
+                )
+            };
+            Some(format!("{} {}", shown(packed), word(&program)))
         }
         _ => None,
     }

@@ -1,10 +1,12 @@
 // The entries for C and Rust. Each returns its answer as one number: number * 2^32 + value.
+use checker::check::check_plan;
 use task::reading::read_task;
 use task::verdict::Verdict;
 ghost use mathlib.Core.Path.{_≡_};
 ghost use Prim.Native.Nat.{_^_, _<_};
 ghost use Rattle.task.specs.Reading.{readTask};
 ghost use Rattle.task.specs.Verdict.{valueOf};
+ghost use Rattle.checker.specs.Check.{check};
 ghost use Rattle.capi.specs.Packed.{packed};
 
 // An answer as one number.
@@ -25,5 +27,16 @@ pub extern "C" fn pp_check_task(task: &[u8]) -> u64
 {
     let reading = read_task(task);
     let verdict = reading.verdict;
+    packed(verdict)
+}
+
+// A plan's verdict for a task: questions 1 to 24. If it is accepted, its program fills the buffer's first bytes; a refusal leaves the
+// buffer as it was.
+#[no_mangle]
+pub extern "C" fn pp_check_plan(task: &[u8], plan: &[u8], program: &mut [u8]) -> u64
+    ensures { λ r. ⌜ (r ≡ packed (check (now (task .entry)) (now (plan .entry)) (now (program .entry)) .verdict))
+        × (now (program .exit) ≡ check (now (task .entry)) (now (plan .entry)) (now (program .entry)) .buffer) ⌝ }
+{
+    let verdict = check_plan(task, plan, program);
     packed(verdict)
 }
