@@ -1,5 +1,5 @@
 -- The laws of the definitions in specs/, each in a file with the definition's name; those of Reading's loop are in Turns, what its turns
--- keep is in Kept, and what a task that passes holds in Passed.
+-- keep is in Kept, what a task that passes holds in Passed, and the three bytes of an instruction in Triple.
 pub mod Bounds
 pub mod Facts
 pub mod First
@@ -8,5 +8,6 @@ pub mod Kept
 pub mod Passed
 pub mod Program
 pub mod Reading
+pub mod Triple
 pub mod Turns
 pub mod Verdict

@@ -3,34 +3,28 @@
 -- So the bytes read so far, and as many as the records still admitted may have, stay within one number, turn by turn.
 -- Assumes nothing.
 use Prim.Native.Nat.{ℕ, zero, suc, _+_, _-_, _*_, _^_, _≤_, _<_, zero-le}
-use mathlib.Core.Path.{_≡_, refl, _∙_}
-use mathlib.Core.Bool.{Bool, true, _&&_}
+use mathlib.Core.Path.{_≡_, refl, ap}
+use mathlib.Core.Bool.{Bool, true}
 use mathlib.Core.List.{List}
 use native.Mathlib.Decide.{le-ind}
 use native.Mathlib.Nat.{mul-le-mul}
 use native.Mathlib.Omega.{arith}
-use lib.ListN.{length, set, replicate, length-replicate}
-use lib.Seq.{getD-set-same, getD-set-other}
-use lib.Dec.{ltb}
+use lib.ListN.{length, replicate, length-replicate}
 use borrow.Author.Tests.{ltb-true, eqb-true}
 use Rattle.records.specs.Loop.{Turn, ask}
 use Rattle.records.specs.Numbers.{byteAt}
 use Rattle.records.proofs.Laws.Loop.{Keeps, ask-keeps}
-use Rattle.records.proofs.Laws.Tests.{both-true}
 use Rattle.task.proofs.Laws.Bounds.{ranges}
-use Rattle.task.proofs.Laws.Instruction.{keep-is, Allowed, allows, decode-allowed, encode-decode, put-length}
+use Rattle.task.proofs.Laws.Instruction.{decoded-for, put-length}
+use Rattle.task.proofs.Laws.Triple.{put-here, put-other}
 use Rattle.task.proofs.Laws.Kept.{least, Kinds, reading-keeps}
 use Rattle.task.specs.Bounds.{boundsAt}
-use Rattle.task.specs.Instruction.{decode, decodeFor, encode, tripleAt, withTriple}
+use Rattle.task.specs.Instruction.{decodeFor, encode, tripleAt, withTriple}
 use Rattle.task.specs.Program.{lineOffset}
 use Rattle.task.specs.Reading.{State, noIndex, noTask, begin, refused, accepted, headerTurn, actionTurn, onPreset, presetTurn, caseTurn, closeTurn, readTask}
 use Rattle.task.specs.Verdict.{valueOf}
 use Rattle.task.specs.declared.bounds.Bounds.{Bounds}
-use Rattle.task.specs.declared.instruction.Line.{Line}
-use Rattle.task.specs.declared.instruction.Proc.{Proc}
 use Rattle.task.specs.declared.instruction.Triple.{Triple}
-use Rattle.task.specs.declared.instruction.Instruction.{Instruction}
-use Rattle.task.specs.declared.instruction.Instruction.the-variants.{Empty, Act, Goto, Call, End}
 use Rattle.task.specs.declared.instruction.Decoded.{Decoded}
 use Rattle.task.specs.declared.instruction.Decoded.the-variants.{Is, Nothing}
 use Rattle.task.specs.declared.reading.Reading.{Reading}
@@ -50,57 +44,31 @@ module _ (presets : List ℕ) (line : ℕ) (w : Triple) where
   abbrev put : List ℕ
   put = withTriple presets (3 * line) w
 
-  put-beside : (at : ℕ) → (at ≡ 3 * line + 1 → ⊥) → (at ≡ 3 * line + 2 → ⊥) → byteAt put at ≡ byteAt (set presets (3 * line) (w .op)) at
-  unfolding withTriple
-  put-beside at h k =
-      getD-set-other (set (set presets (3 * line) (w .op)) (3 * line + 1) (w .p)) (3 * line + 2) at (w .q) 0 k
-      ∙ getD-set-other (set presets (3 * line) (w .op)) (3 * line + 1) at (w .p) 0 h
+  op-here : 3 * line + 3 ≤ length presets → byteAt put (3 * line) ≡ w .op
+  unfolding tripleAt
+  op-here h = ap (λ (t : Triple). t .op) (put-here presets line w h)
 
-  put-here : 3 * line < length presets → byteAt put (3 * line) ≡ w .op
-  put-here h = put-beside (3 * line) (omega arith) (omega arith) ∙ getD-set-same presets (3 * line) (w .op) 0 h
-
-  put-other : (k : ℕ) → (k ≡ line → ⊥) → byteAt put (3 * k) ≡ byteAt presets (3 * k)
-  put-other k h = put-beside (3 * k) (omega arith) (omega arith) ∙ getD-set-other presets (3 * line) (3 * k) (w .op) 0 (omega arith)
+  op-other : (k : ℕ) → (k ≡ line → ⊥) → byteAt put (3 * k) ≡ byteAt presets (3 * k)
+  unfolding tripleAt
+  op-other k h = ap (λ (t : Triple). t .op) (put-other presets line w k h)
 
   free-before : (k : ℕ) → k ≤ line → free put k ≡ free presets k
   unfolding free
   free-before zero h = refl
-  free-before (suc k) h = omega (arith, free-before k (omega arith), put-other k (omega arith))
+  free-before (suc k) h = omega (arith, free-before k (omega arith), op-other k (omega arith))
 
-  module _ (h : 3 * line < length presets) (e : byteAt presets (3 * line) ≡ 0) (f : 0 < w .op) where
+  module _ (h : 3 * line + 3 ≤ length presets) (e : byteAt presets (3 * line) ≡ 0) (f : 0 < w .op) where
     free-fewer : (k : ℕ) → line < k → suc (free put k) ≡ free presets k
     unfolding free
     free-fewer =
         le-ind (λ (k : ℕ). suc (free put k) ≡ free presets k)
-        (omega (arith, free-before line (omega arith), put-here h))
-        (λ k l i. omega (arith, put-other k (omega arith)))
+        (omega (arith, free-before line (omega arith), op-here h))
+        (λ k l i. omega (arith, op-other k (omega arith)))
 
--- an instruction that is allowed on a line: the line is no more than the last
-module _ (b : Bounds) (actions : ℕ) (line : Line) where
-  allowed-line : (w : Instruction) → Allowed b actions line w → line .0 ≤ b .last
-  allowed-line Empty h = h
-  allowed-line (Act action) h = omega arith
-  allowed-line (Goto target fact) h = omega arith
-  allowed-line (Call procedure) h = omega arith
-  allowed-line End h = h .1
-
-  module _ (procedure : Proc) (t : Triple) (w : Instruction) (h : decodeFor b actions procedure line t ≡ Is w) where
-    for-tests : (procedure .0 < b .procedures) × (0 < t .op) × (decode b actions line t ≡ Is w)
-    unfolding decodeFor
-    for-tests =
-        let k = keep-is (ltb (procedure .0) (b .procedures) && ltb 0 (t .op)) _ w h in
-        let z = both-true _ _ (k .0) in
-        (ltb-true (procedure .0) (b .procedures) (z .0), ltb-true 0 (t .op) (z .1), k .1)
-
-    for-line : line .0 ≤ b .last
-    for-line = allowed-line w (allows b actions line w (decode-allowed b actions line t w (for-tests .2)))
-
-    for-op : 0 < encode w .op
-    for-op = rw (encode-decode b actions line t w (for-tests .2)) (for-tests .1)
-
-    for-below : b .procedures ≤ 8 → b .last ≤ 31 → procedure .0 * (b .last + 1) + line .0 < 256
-    for-below p l =
-        omega (arith, for-line, mul-le-mul {n₁ = procedure .0} {m₁ = b .last + 1} {n₂ = 7} {m₂ = 32} (omega (arith, for-tests .0)) (omega arith))
+-- a line that a preset names is one of 256
+line-below : (b : Bounds) (procedure line : ℕ) → b .procedures ≤ 8 → b .last ≤ 31 → procedure < b .procedures → line ≤ b .last
+    → procedure * (b .last + 1) + line < 256
+line-below b procedure line p l h k = omega (arith, mul-le-mul {n₁ = procedure} {m₁ = b .last + 1} {n₂ = 7} {m₂ = 32} (omega arith) (omega arith))
 
 -- the bytes of a header, 256 presets, 64 actions and 32 cases, each as long as it may be
 abbrev most : ℕ
@@ -168,9 +136,12 @@ module _ (bytes : List ℕ) (s : State) (small : Small s) where
     on-preset-good n Nothing e = here
     on-preset-good n (Is w) e =
         ask-good _ _ _ _ here λ h.
-        let line = byteAt bytes start * (s .progress .index .bounds .last + 1) + byteAt bytes (start + 1) in
-        let below : line < 256 = for-below _ _ _ _ _ w e (small .procedures) (small .last) in
-        let fewer = free-fewer (s .presets) line (encode w) (omega arith) (eqb-true _ 0 h) (for-op _ _ _ _ _ w e) 256 below in
+        let d = decoded-for _ _ _ _ _ w e in
+        let b = s .progress .index .bounds in
+        let line = byteAt bytes start * (b .last + 1) + byteAt bytes (start + 1) in
+        let below = line-below b (byteAt bytes start) (byteAt bytes (start + 1)) (small .procedures) (small .last) (d .procedure) (d .line) in
+        let written : 0 < encode w .op = rw (d .encodes) (d .op) in
+        let fewer = free-fewer (s .presets) line (encode w) (omega arith) (eqb-true _ 0 h) written 256 below in
         omega (arith, put-length (s .presets) (3 * line) (encode w))
 
     preset-good : next ≡ s .progress .at + 9 → Good (presetTurn bytes s start next)

@@ -17,18 +17,14 @@ use Rattle.records.specs.declared.record.Found.the-variants.{Record, Missing}
 use Rattle.records.proofs.Laws.Loop.{ask-yes, ask-no}
 use Rattle.records.proofs.Laws.Record.{record-ends}
 use Rattle.records.proofs.Laws.Tests.{both-true, cond-either, cond-yes, cond-no}
-use Rattle.task.specs.Instruction.{allowed, decodeFor, encode, tripleAt}
+use Rattle.task.specs.Instruction.{allowed, decodeFor, tripleAt}
 use Rattle.task.specs.Program.{lineOffset}
-use Rattle.task.specs.declared.bounds.Bounds.{Bounds}
 use Rattle.task.specs.declared.index.Index.{Index}
 use Rattle.task.specs.declared.instruction.Decoded.{Decoded}
 use Rattle.task.specs.declared.instruction.Decoded.the-variants.{Is, Nothing}
 use Rattle.task.specs.declared.instruction.Instruction.{Instruction}
-use Rattle.task.specs.declared.instruction.Line.{Line}
-use Rattle.task.specs.declared.instruction.Proc.{Proc}
 use Rattle.task.specs.declared.instruction.Triple.{Triple}
 use Rattle.task.specs.declared.verdict.Verdict.the-variants.{Accepted, Refused}
-use Rattle.task.proofs.Laws.Instruction.{keep-is, decode-allowed, encode-decode}
 use Rattle.task.proofs.Laws.Verdict.{refused-accepted}
 use Rattle.step.specs.Perform.{perform, unchanged, answered}
 use Rattle.step.specs.Position.{sameFrame, top}
@@ -61,16 +57,6 @@ same-frame f g h =
 pub step-instruction : (kind : ℕ) (w : Instruction) → instructionOf (stepOf kind w) ≡ w
 unfolding instructionOf stepOf
 step-instruction kind w = cond-either (λ (x : Step). instructionOf x ≡ w) (eqb kind 16) _ _ (λ h. refl) (λ h. refl)
-
--- an instruction decoded by question 15 is allowed on its line, and has the bytes that it was decoded from
-module _ (b : Bounds) (actions : ℕ) (procedure : Proc) (line : Line) (t : Triple) (w : Instruction) (h : decodeFor b actions procedure line t ≡ Is w) where
-  pub decoded-allowed : allowed b actions line w ≡ true
-  unfolding decodeFor
-  decoded-allowed = decode-allowed b actions line t w (keep-is _ _ w h .1)
-
-  pub decoded-encodes : encode w ≡ t
-  unfolding decodeFor
-  decoded-encodes = encode-decode b actions line t w (keep-is _ _ w h .1)
 
 module _ (i : Index) (p : Position) (task : Bounded i) (h : possible i p ≡ true) where
   -- with a case open, a possible position has a frame

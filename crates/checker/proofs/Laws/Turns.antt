@@ -2,7 +2,7 @@
 -- closing record at the end of the plan. So a turn that goes on goes to an offset behind its own, and the loop's law applies: what the plan
 -- comes to from here on is one turn, and then what it comes to from there on. And it keeps the position possible.
 -- Assumes nothing.
-use Prim.Native.Nat.{ℕ, _+_, _-_, _<_}
+use Prim.Native.Nat.{ℕ, _+_, _-_, _≤_, _<_}
 use mathlib.Core.Path.{_≡_, refl, sym, ap, _∙_}
 use mathlib.Core.Bool.{Bool, true, false}
 use mathlib.Core.List.{List}
@@ -24,6 +24,7 @@ use Rattle.task.specs.declared.index.Task.{Task}
 use Rattle.task.specs.declared.instruction.Decoded.{Decoded}
 use Rattle.task.specs.declared.instruction.Decoded.the-variants.{Is, Nothing}
 use Rattle.task.specs.declared.instruction.Instruction.{Instruction}
+use Rattle.task.proofs.Laws.Instruction.{decoded-for}
 use Rattle.task.proofs.Laws.Passed.{Passed, passed}
 use Rattle.step.specs.Perform.{perform}
 use Rattle.step.specs.Position.{sameFrame, top}
@@ -35,13 +36,10 @@ use Rattle.step.proofs.Laws.Possible.{parts, case-open}
 use Rattle.checker.specs.Check.{State, Followed, refused, accepted, lineFits, written, onMove, onStep, onDecoded, stepTurn, closeTurn, onRecord, turnOf, left, begin, follow}
 use Rattle.checker.specs.Outcome.{ReadAs, state, turned}
 use Rattle.checker.specs.Plan.{stepOf, isKind, lengthFits, frameAt}
-use Rattle.checker.specs.Questions.{PLAN-RECORD}
+use Rattle.checker.specs.Questions.{PLAN-RECORD, PLAN-CLOSED}
 use Rattle.checker.specs.declared.check.Outcome.{Outcome}
 use Rattle.checker.specs.declared.check.Outcome.the-variants.{Next, Stopped, Closed}
-use Rattle.checker.proofs.Laws.Check.{same-frame, step-instruction, decoded-allowed}
-
-refused-accepted : {question place steps : ℕ} {program : List ℕ} → refused question place ≡ accepted steps program → ⊥
-refused-accepted h = let z : _≡_ {A = ℕ} 0 1 = cc in omega arith
+use Rattle.checker.proofs.Laws.Check.{same-frame, step-instruction}
 
 module _ (bytes : List ℕ) (i : Index) (offsets plan : List ℕ) (s : State) where
   -- a step's record at the offset: questions 11 to 13 say yes
@@ -96,18 +94,16 @@ module _ (bytes : List ℕ) (i : Index) (offsets plan : List ℕ) (s : State) wh
     pub count : steps ≡ s .position .steps
     pub same : program ≡ s .program
 
-  -- what an answer says if it accepts
+  -- what an answer says: a refusal has the record's offset as its place, or for 24 the offset behind the closing record
   abbrev Ended : Followed → Type 0
-  Ended a = (steps : ℕ) (program : List ℕ) → a ≡ accepted steps program → Ends steps program
+  Ended (refused question place) = place ≤ s .at + 4
+  Ended (accepted steps program) = Ends steps program
 
   abbrev Says : Turn State Followed → Type 0
   Says = Keeps Went Ended
 
-  refusal-says : (question place : ℕ) → Ended (refused question place)
-  refusal-says question place steps program e = absurd (refused-accepted e)
-
-  ask-says : (answer : Bool) (question place : ℕ) (rest : Turn State Followed) → (answer ≡ true → Says rest) → Says (ask answer (refused question place) rest)
-  ask-says answer question place rest k = ask-keeps Went Ended answer _ rest (refusal-says question place) k
+  ask-says : (answer : Bool) (question : ℕ) (rest : Turn State Followed) → (answer ≡ true → Says rest) → Says (ask answer (refused question (s .at)) rest)
+  ask-says answer question rest k = ask-keeps Went Ended answer _ rest (omega arith) k
 
   module _ (kind body size next : ℕ) where
     move-says : StepRecord kind body size next → (w : Instruction)
@@ -115,7 +111,7 @@ module _ (bytes : List ℕ) (i : Index) (offsets plan : List ℕ) (s : State) wh
         → (u : Turn Position ℕ) → perform bytes i offsets (s .position) w ≡ u
         → Says (onMove (s .at) next (reached kind next (frameAt plan body) w (s .position) .program) u)
     unfolding onMove
-    move-says r w taken (stop question) e = refusal-says _ _
+    move-says r w taken (stop question) e = omega arith
     move-says r w taken (go position) e =
         record {
           kind = kind;
@@ -133,26 +129,26 @@ module _ (bytes : List ℕ) (i : Index) (offsets plan : List ℕ) (s : State) wh
         → decodeFor (i .bounds) (i .actions) (frameAt plan body .procedure) (frameAt plan body .line) (tripleAt plan (body + 2)) ≡ d
         → Says (onDecoded bytes i offsets s kind next (frameAt plan body) d)
     unfolding onDecoded onStep
-    decoded-says r few Nothing e = refusal-says _ _
+    decoded-says r few Nothing e = omega arith
     decoded-says r few (Is w) e =
-        ask-says _ _ _ _ λ case.
-        ask-says _ _ _ _ λ here.
-        ask-says _ _ _ _ λ line.
+        ask-says _ _ _ λ case.
+        ask-says _ _ _ λ here.
+        ask-says _ _ _ λ line.
         rw (step-instruction kind w)
         (move-says r w (λ position m. record { few = few; decoded = e; case = ltb-true _ _ case; here = here; line = line; moves = m }) _ refl)
 
     step-says : StepRecord kind body size next → Says (stepTurn bytes i offsets s plan kind body next)
     unfolding stepTurn
-    step-says r = ask-says _ _ _ _ λ few. decoded-says r (ltb-true _ _ few) _ refl
+    step-says r = ask-says _ _ _ λ few. decoded-says r (ltb-true _ _ few) _ refl
 
     close-says : recordAt plan (s .at) ≡ Record kind body size next → isKind kind ≡ true → lengthFits kind size ≡ true → eqb kind 5 ≡ true
         → Says (closeTurn i plan s next)
-    unfolding closeTurn
+    unfolding closeTurn lengthFits
     close-says found known fits closing =
-        ask-says _ _ _ _ λ case.
-        ask-says _ _ _ _ λ end steps program e.
-        let k : s .position .steps ≡ steps = cc in
-        let p : s .program ≡ program = cc in
+        let none = eqb-true size 0 (rw closing at fits) in
+        let behind : next ≤ s .at + 4 = omega (arith, record-ends plan (s .at) kind body size next found) in
+        ask-says _ _ _ λ case.
+        ask-keeps Went Ended _ (refused PLAN-CLOSED next) _ behind λ end.
         record {
           kind = kind;
           body = body;
@@ -164,16 +160,16 @@ module _ (bytes : List ℕ) (i : Index) (offsets plan : List ℕ) (s : State) wh
           closing = closing;
           case = eqb-true _ _ case;
           end = eqb-true _ _ end;
-          count = sym k;
-          same = sym p;
+          count = refl;
+          same = refl;
         }
 
   record-says : (f : Found) → recordAt plan (s .at) ≡ f → Says (onRecord bytes i offsets plan s f)
   unfolding onRecord
-  record-says Missing e = refusal-says _ _
+  record-says Missing e = omega arith
   record-says (Record kind body size next) e =
-      ask-says _ _ _ _ λ known.
-      ask-says _ _ _ _ λ fits.
+      ask-says _ _ _ λ known.
+      ask-says _ _ _ λ fits.
       cond-either Says (eqb kind 5) (closeTurn i plan s next) (stepTurn bytes i offsets s plan kind body next)
       (λ closing. close-says kind body size next e known fits closing)
       (λ step. step-says kind body size next (record { found = e; known = known; fits = fits; step = step }))
@@ -208,12 +204,16 @@ module _ (bytes : List ℕ) (i : Index) (offsets plan : List ℕ) (s : State) wh
 
   -- a turn that accepts read the closing record, and the closing record at the end, with all cases finished, is accepted
   pub accepts-ends : (steps : ℕ) (program : List ℕ) → turnOf bytes i offsets plan s ≡ stop (accepted steps program) → Ends steps program
-  accepts-ends steps program e = (rw e at turn-says) steps program refl
+  accepts-ends steps program e = rw e at turn-says
 
   pub ends-accepts : (steps : ℕ) (program : List ℕ) → Ends steps program → turnOf bytes i offsets plan s ≡ stop (accepted steps program)
   unfolding turnOf onRecord closeTurn ask
   ends-accepts steps program e =
       rw (e .found) (simp (e .known, e .fits, e .closing, eq-eqb _ _ (e .case), eq-eqb _ _ (e .end), e .count, e .same))
+
+  -- a turn that refuses does so at its record, or right behind a closing one
+  pub refuses-near : (question place : ℕ) → turnOf bytes i offsets plan s ≡ stop (refused question place) → place ≤ s .at + 4
+  refuses-near question place e = rw e at turn-says
 
   -- the next record is behind this one
   pub falls : (t : State) → turnOf bytes i offsets plan s ≡ go t → left plan t < left plan s
@@ -237,7 +237,7 @@ turn-stands bytes t passed plan s u h e =
     let k = w .taken in
     let p = s .position in
     let above = case-open (t .index) p (parts (t .index) p (h .0) .depth) (omega (arith, k .case)) in
-    let line = decoded-allowed _ _ _ _ _ _ (k .decoded) in
+    let line = decoded-for _ _ _ _ _ _ (k .decoded) .allowed in
     let same = same-frame (frameAt plan (w .body)) (top p) (k .here) in
     rw (w .to) (step-possible bytes t passed p (h .0) above (k .few) (h .1) (w .instruction) (rw same at line) (w .position) (k .moves))
 

@@ -25,7 +25,7 @@ use Rattle.checker.specs.Plan.{PlanStep, instructionOf, kindOf, stepOf, isKind,
 use Rattle.checker.specs.declared.plan.Step.{Step}
 use Rattle.checker.specs.declared.plan.Step.the-variants.{Write, Repeat}
 use Rattle.demands.specs.Demand2.{OneToOne}
-use Rattle.demands.proofs.Laws.Triple.{spelled-encode}
+use Rattle.task.proofs.Laws.Triple.{spelled-encode}
 use Rattle.demands.proofs.Laws.Records.{byte-behind, record-read, body-read, rest-read, record-written}
 
 -- the steps' records, without the closing one
@@ -38,7 +38,7 @@ unfolding planOf recordsOf
 plan-records [] = refl
 plan-records (a ∷ σ) = rw (plan-records σ, append-assoc)
 
-pub records-snoc : (σ : List PlanStep) (a : PlanStep) → recordsOf (σ ++ (a ∷ [])) ≡ recordsOf σ ++ recordOf a
+records-snoc : (σ : List PlanStep) (a : PlanStep) → recordsOf (σ ++ (a ∷ [])) ≡ recordsOf σ ++ recordOf a
 unfolding recordsOf
 records-snoc [] a = append-nil (recordOf a)
 records-snoc (b ∷ σ) a = rw (records-snoc σ a, append-assoc)
@@ -58,7 +58,7 @@ step-kinds : (kind : ℕ) → isKind kind ≡ true → eqb kind 5 ≡ false → 
 unfolding isKind
 step-kinds kind h k = let e = both-true _ _ (rw (k, or-false) at h) in (leb-true _ _ (e .0), leb-true _ _ (e .1))
 
-pub kind-again : (kind : ℕ) (w : Instruction) → isKind kind ≡ true → eqb kind 5 ≡ false → kindOf (stepOf kind w) ≡ kind
+kind-again : (kind : ℕ) (w : Instruction) → isKind kind ≡ true → eqb kind 5 ≡ false → kindOf (stepOf kind w) ≡ kind
 unfolding stepOf kindOf
 kind-again kind w h k =
     let e = step-kinds kind h k in

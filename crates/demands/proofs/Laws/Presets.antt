@@ -13,7 +13,7 @@ use Rattle.records.specs.Loop.{Turn, ask}
 use Rattle.records.specs.Numbers.{byteAt}
 use Rattle.records.proofs.Laws.Loop.{Keeps, ask-keeps}
 use Rattle.records.proofs.Laws.Tests.{cond-either}
-use Rattle.task.proofs.Laws.Instruction.{put-length}
+use Rattle.task.proofs.Laws.Instruction.{decoded-for, put-length}
 use Rattle.task.proofs.Laws.Kept.{least, Follows, Kinds, reading-keeps}
 use Rattle.task.proofs.Laws.Verdict.{refused-accepted}
 use Rattle.task.specs.Bounds.{boundsAt, lineCount, programSize}
@@ -31,12 +31,12 @@ use Rattle.task.specs.declared.reading.Reading.{Reading}
 use Rattle.task.specs.declared.verdict.Verdict.the-variants.{Accepted}
 use Rattle.step.specs.declared.position.Frame.{Frame}
 use Rattle.checker.proofs.Laws.Answer.{size-most}
-use Rattle.checker.proofs.Laws.Check.{same-frame, decoded-allowed}
+use Rattle.checker.proofs.Laws.Check.{same-frame}
 use Rattle.checker.specs.Plan.{frameAt}
 use Rattle.step.specs.Position.{sameFrame}
 use Rattle.demands.specs.Compiled.{writtenAt, presetAt}
-use Rattle.demands.proofs.Laws.Program.{Inside, Holds, decoded-inside, holds-written}
-use Rattle.demands.proofs.Laws.Triple.{spelled-encode}
+use Rattle.demands.proofs.Laws.Program.{Inside, Holds, holds-written}
+use Rattle.task.proofs.Laws.Triple.{spelled-encode}
 
 -- lines that have an instruction that is allowed there
 abbrev pub LinesAllowed : Bounds → ℕ → (Frame → Instruction) → Type 0
@@ -75,13 +75,14 @@ written-lawful : (b : Bounds) (actions : ℕ) (f : Frame) (w : Instruction) (t :
     → Lawful b actions (withTriple presets (lineOffset b (f .procedure) (f .line)) (encode w))
 unfolding writtenAt
 written-lawful b actions f w t e presets room l =
+    let d = decoded-for b actions (f .procedure) (f .line) t w e in
     record {
       lines = writtenAt (l .lines) f w;
-      holds = holds-written b presets (l .lines) room (l .holds) f (decoded-inside b actions f w t e) w;
+      holds = holds-written b presets (l .lines) room (l .holds) f (record { procedure = d .procedure; line = d .line }) w;
       allows =
           λ g h.
           cond-either (λ (v : Instruction). allowed b actions (g .line) v ≡ true) (sameFrame f g) w (l .lines g)
-          (λ s. rw (same-frame f g s) at (decoded-allowed b actions (f .procedure) (f .line) t w e)) (λ s. l .allows g h);
+          (λ s. rw (same-frame f g s) at (d .allowed)) (λ s. l .allows g h);
     }
 
 -- a state that the reading may come to: there is no preset before the section of the presets

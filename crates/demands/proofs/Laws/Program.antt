@@ -4,7 +4,7 @@
 -- Assumes nothing.
 use Prim.Native.Nat.{ℕ, zero, suc, _+_, _*_, _≤_, _<_}
 use mathlib.Core.Path.{_≡_, refl, sym, ap, _∙_}
-use mathlib.Core.Bool.{true, false, true≢false, _&&_}
+use mathlib.Core.Bool.{true, false, true≢false}
 use mathlib.Core.List.{List, _∷_}
 use mathlib.Core.Logic.{_↔_}
 use native.Mathlib.Nat.{mod-lt, mod-eq-of-lt, mul-add-mod-self-right, div-eq-of-lt, mul-add-div-right, div-lt-iff-lt-mul, mul-le-mul-right}
@@ -12,27 +12,24 @@ use native.Mathlib.Numerals.{add-one, add-two}
 use native.Mathlib.Omega.{arith}
 use lib.ListN.{length, take, drop}
 use lib.Seq.{drop-cons}
-use lib.Dec.{ltb}
-use borrow.Author.Tests.{ltb-true, eqb-true, eq-eqb}
-use Rattle.records.proofs.Laws.Tests.{both-true, cond-either}
-use Rattle.task.proofs.Laws.Instruction.{keep-is, Allowed, allows}
+use borrow.Author.Tests.{eqb-true, eq-eqb}
+use Rattle.records.proofs.Laws.Tests.{cond-either}
 use Rattle.task.proofs.Laws.Program.{line-offset}
 use Rattle.task.specs.Bounds.{lineCount, programSize}
-use Rattle.task.specs.Instruction.{allowed, decodeFor, encode, tripleAt, withTriple}
+use Rattle.task.specs.Instruction.{encode, tripleAt, withTriple}
 use Rattle.task.specs.Program.{lineOffset}
 use Rattle.task.specs.declared.bounds.Bounds.{Bounds}
 use Rattle.task.specs.declared.instruction.Triple.{Triple}
 use Rattle.task.specs.declared.instruction.Instruction.{Instruction}
-use Rattle.task.specs.declared.instruction.Instruction.the-variants.{Empty, Act, Goto, Call, End}
-use Rattle.task.specs.declared.instruction.Decoded.the-variants.{Is}
+use Rattle.task.specs.declared.instruction.Instruction.the-variants.{Empty}
 use Rattle.step.specs.declared.position.Frame.{Frame}
-use Rattle.checker.proofs.Laws.Check.{frame-is, same-frame, decoded-allowed}
+use Rattle.checker.proofs.Laws.Check.{frame-is, same-frame}
 use Rattle.checker.specs.Check.{lineFits}
 use Rattle.step.specs.Position.{sameFrame}
 use Rattle.checker.specs.declared.plan.Step.the-variants.{Write, Repeat}
 use Rattle.demands.specs.Compiled.{writtenAt}
 use Rattle.demands.specs.Demand2.{lineOf, bytesFrom, programOf}
-use Rattle.demands.proofs.Laws.Triple.{encode-injective, op-empty, same-triple, triple-same, put-here, put-other}
+use Rattle.task.proofs.Laws.Triple.{encode-injective, op-empty, same-triple, triple-same, put-here, put-other}
 
 -- a frame whose procedure and line a program has
 pub record Inside (b : Bounds) (f : Frame) : Type 0 where
@@ -60,22 +57,6 @@ module _ (b : Bounds) (program : List ℕ) (lines : Frame → Instruction) (hold
   unfolding lineFits
   repeat-fits =
       (λ h. encode-injective (lines f) w (sym (holds f inside) ∙ same-triple _ _ h), λ e. rw (holds f inside, e) (triple-same (encode w)))
-
--- a frame whose procedure is below b is inside if an instruction is allowed on its line
-module _ (b : Bounds) (actions : ℕ) (f : Frame) (w : Instruction) where
-  allowed-line : Allowed b actions (f .line) w → f .line .0 ≤ b .last
-  allowed-line = elim w [ Empty ↦ λ h. h | Act a ↦ λ h. omega arith | Goto l p ↦ λ h. omega arith | Call p ↦ λ h. omega arith | End ↦ λ h. h .1 ]
-
-  pub allowed-inside : f .procedure .0 < b .procedures → allowed b actions (f .line) w ≡ true → Inside b f
-  allowed-inside h a = record { procedure = h; line = allowed-line (allows b actions (f .line) w a) }
-
-  -- which is so of an instruction that was decoded for it
-  pub decoded-inside : (t : Triple) → decodeFor b actions (f .procedure) (f .line) t ≡ Is w → Inside b f
-  unfolding decodeFor
-  decoded-inside t e =
-      let k = keep-is (ltb (f .procedure .0) (b .procedures) && ltb 0 (t .op)) _ w e in
-      let h = both-true (ltb (f .procedure .0) (b .procedures)) _ (k .0) .0 in
-      allowed-inside (ltb-true (f .procedure .0) (b .procedures) h) (decoded-allowed b actions (f .procedure) (f .line) t w e)
 
 -- every frame is the same as itself, as question 17 asks it
 pub frame-same : (f : Frame) → sameFrame f f ≡ true

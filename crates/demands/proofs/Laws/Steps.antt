@@ -11,9 +11,8 @@ use mathlib.Core.Logic.{_↔_}
 use native.Mathlib.Omega.{arith}
 use lib.ListN.{length, drop}
 use lib.Dec.{ltb}
-use borrow.Author.Tests.{lt-ltb, ltb-true}
+use borrow.Author.Tests.{lt-ltb}
 use Rattle.records.specs.Loop.{go}
-use Rattle.records.proofs.Laws.Tests.{both-true}
 use Rattle.task.specs.Bounds.{programSize}
 use Rattle.task.specs.Instruction.{allowed, decodeFor, encode}
 use Rattle.task.specs.Program.{lineOffset}
@@ -24,7 +23,7 @@ use Rattle.task.specs.declared.instruction.Instruction.{Instruction}
 use Rattle.task.specs.declared.instruction.Instruction.the-variants.{Empty}
 use Rattle.task.specs.declared.instruction.Triple.{Triple}
 use Rattle.task.proofs.Laws.Bounds.{ranges}
-use Rattle.task.proofs.Laws.Instruction.{keep-is, keep-yes, decode-encode, put-length}
+use Rattle.task.proofs.Laws.Instruction.{keep-yes, decode-encode, allowed-line, decoded-for, put-length}
 use Rattle.task.proofs.Laws.Passed.{Passed}
 use Rattle.step.specs.Position.{top}
 use Rattle.step.specs.Possible.{possible}
@@ -38,13 +37,13 @@ use Rattle.checker.specs.Plan.{PlanStep, instructionOf, kindOf, stepOf, frameAt
 use Rattle.checker.specs.declared.plan.Step.{Step}
 use Rattle.checker.specs.declared.plan.Step.the-variants.{Write, Repeat}
 use Rattle.checker.proofs.Laws.Answer.{size-most}
-use Rattle.checker.proofs.Laws.Check.{same-frame, step-instruction, decoded-allowed, decoded-encodes}
+use Rattle.checker.proofs.Laws.Check.{same-frame, step-instruction}
 use Rattle.checker.proofs.Laws.Turns.{reached, Went, goes-went, went-goes, Standing, turn-stands}
 use Rattle.demands.specs.Compiled.{State, Running, writtenAt, Runs, MayStand, Applies, writes, repeats}
 use Rattle.demands.proofs.Laws.Plan.{step-read, step-written, step-again}
-use Rattle.demands.proofs.Laws.Program.{Inside, heldOn, Holds, write-fits, repeat-fits, allowed-inside, frame-same, holds-written}
+use Rattle.demands.proofs.Laws.Program.{Inside, heldOn, Holds, write-fits, repeat-fits, frame-same, holds-written}
 use Rattle.demands.proofs.Laws.Runs.{runningOf, performs-runs, runs-performs, runs-above}
-use Rattle.demands.proofs.Laws.Triple.{op-empty}
+use Rattle.task.proofs.Laws.Triple.{op-empty}
 
 -- what a step asks of its line: a write that it is empty, a repeat that it holds the instruction
 abbrev Fits : (Frame → Instruction) → Frame → Step → Type 0
@@ -76,23 +75,21 @@ module _ (bytes : List ℕ) (t : Task) where
   action-applies f (Write w) c r may fits runs = writes may fits runs
   action-applies f (Repeat w) c r may fits runs = repeats may fits runs
 
--- question 15 decodes the bytes of an instruction exactly where it may be written
+-- question 15 decodes the bytes of an instruction exactly where it may stand, which is on a line of the program
 module _ (bytes : List ℕ) (t : Task) (f : Frame) (w : Instruction) where
   abbrev b : Bounds
   b = t .index .bounds
 
   decoded-may : (x : Triple) → decodeFor b (t .index .actions) (f .procedure) (f .line) x ≡ Is w → MayStand bytes t f w × (encode w ≡ x)
-  unfolding decodeFor encode
+  unfolding encode
   decoded-may x e =
-      let k = keep-is _ _ w e in
-      let l = both-true (ltb (f .procedure .0) (b .procedures)) _ (k .0) in
-      let same = decoded-encodes b (t .index .actions) (f .procedure) (f .line) x w e in (
+      let d = decoded-for b (t .index .actions) (f .procedure) (f .line) x w e in (
         record {
-          procedure = ltb-true _ _ (l .0);
-          allowed = decoded-allowed b (t .index .actions) (f .procedure) (f .line) x w e;
-          instruction = λ z. omega (arith, ltb-true 0 (x .op) (l .1), ap (λ (y : Triple). y .op) same, ap (λ (v : Instruction). encode v .op) z);
+          procedure = d .procedure;
+          allowed = d .allowed;
+          instruction = λ z. omega (arith, d .op, ap (λ (y : Triple). y .op) (d .encodes), ap (λ (v : Instruction). encode v .op) z);
         },
-        same,
+        d .encodes,
       )
 
   may-decoded : MayStand bytes t f w → decodeFor b (t .index .actions) (f .procedure) (f .line) (encode w) ≡ Is w
@@ -105,6 +102,9 @@ module _ (bytes : List ℕ) (t : Task) (f : Frame) (w : Instruction) where
       above : (op : ℕ) → encode w .op ≡ op → 0 < encode w .op
       above zero e = absurd (m .instruction (op-empty w e))
       above (suc op) e = omega arith
+
+  may-inside : MayStand bytes t f w → Inside (t .index .bounds) f
+  may-inside m = record { procedure = m .procedure; line = allowed-line b (t .index .actions) (f .line) w (m .allowed) }
 
 module _ (bytes : List ℕ) (t : Task) (passed : Passed bytes t) where
   -- a state of the checker that stands for one of the compiled task
@@ -164,7 +164,7 @@ module _ (bytes : List ℕ) (t : Task) (passed : Passed bytes t) where
         let f = frameAt plan (w .body) in
         let step = stepOf (w .kind) (w .instruction) in
         let may = decoded-may bytes t f (w .instruction) _ (k .decoded) in
-        let inside = allowed-inside (t .index .bounds) (t .index .actions) f (w .instruction) (may .0 .procedure) (may .0 .allowed) in
+        let inside = may-inside bytes t f (w .instruction) (may .0) in
         let above = case-open (t .index) p (parts (t .index) p (h .standing .0) .depth) (omega (arith, k .case)) in
         let same = same-frame f (top p) (k .here) in
         let deep = depth-most p (h .standing .0) above in
@@ -208,7 +208,7 @@ module _ (bytes : List ℕ) (t : Task) (passed : Passed bytes t) where
         let x = applies-applied bytes t e in
         let w = instructionOf (a .step) in
         let r = step-read plan (s .at) a rest spells in
-        let inside = allowed-inside (t .index .bounds) (t .index .actions) (a .frame) w (x .may .procedure) (x .may .allowed) in
+        let inside = may-inside bytes t (a .frame) w (x .may) in
         let runs = rw (h .running) at (x .runs) in
         let above = runs-above bytes t p runs in
         let q = parts (t .index) p (h .standing .0) in

@@ -1,5 +1,5 @@
--- Decoding op by op, that what is decoded is allowed on its line, and that decoding and encoding are inverse to one another where the
--- instruction is allowed.
+-- Decoding op by op, that what is decoded is allowed on its line, that decoding and encoding are inverse to one another where the instruction
+-- is allowed, and what questions 7 and 15 say of an instruction that they let pass.
 -- Assumes nothing.
 use Prim.Native.Nat.{ℕ, zero, suc, _+_, _≤_, _<_}
 use mathlib.Core.List.{List}
@@ -12,9 +12,10 @@ use borrow.Author.Tests.{ltb-true, leb-true, ne-eqb, eqb-true}
 use native.Mathlib.Omega.{arith}
 use Rattle.records.proofs.Laws.Numbers.{byte-missing}
 use Rattle.records.proofs.Laws.Tests.{both-true}
-use Rattle.task.specs.Instruction.{keep, spelled, allowed, whereAllowed, decode, encode, tripleAt, withTriple}
+use Rattle.task.specs.Instruction.{keep, spelled, allowed, whereAllowed, decode, decodeFor, encode, tripleAt, withTriple}
 use Rattle.task.specs.declared.bounds.Bounds.{Bounds}
 use Rattle.task.specs.declared.instruction.Line.{Line}
+use Rattle.task.specs.declared.instruction.Proc.{Proc}
 use Rattle.task.specs.declared.instruction.Triple.{Triple}
 use Rattle.task.specs.declared.instruction.Instruction.{Instruction}
 use Rattle.task.specs.declared.instruction.Instruction.the-variants.{Empty, Act, Goto, Call, End}
@@ -141,8 +142,9 @@ module _ (b : Bounds) (actions : ℕ) (line : Line) where
   decode-encode (Call procedure) h = rw h
   decode-encode End h = simp h
 
-triple-is : (t : Triple) {op p q : ℕ} → op ≡ t .op → p ≡ t .p → q ≡ t .q → record { op = op; p = p; q = q } ≡ t
-triple-is t e f g = λ i. record { op = e i; p = f i; q = g i }
+-- three bytes that are the same are one triple
+pub triple-is : {v w : Triple} → v .op ≡ w .op → v .p ≡ w .p → v .q ≡ w .q → v ≡ w
+triple-is e f g = λ i. record { op = e i; p = f i; q = g i }
 
 keep-inverse : (t u : Bool) (v w : Instruction) → Is w ≡ keep t (keep u (Is v)) → (t ≡ true) × (v ≡ w)
 keep-inverse t u v w h =
@@ -159,24 +161,58 @@ module _ (b : Bounds) (actions : ℕ) (line : Line) (t : Triple) (w : Instructio
   by-op zero e =
       let k = spelled-by _ _ _ (decode-empty b actions line t e) in
       let z = both-true _ _ (k .0) in
-      ap encode (sym (k .1)) ∙ triple-is t (sym e) (sym (eqb-true _ _ (z .0))) (sym (eqb-true _ _ (z .1)))
+      ap encode (sym (k .1)) ∙ triple-is (sym e) (sym (eqb-true _ _ (z .0))) (sym (eqb-true _ _ (z .1)))
   by-op (suc zero) e =
       let k = spelled-by _ _ _ (decode-act b actions line t e) in
-      ap encode (sym (k .1)) ∙ triple-is t (sym e) refl (sym (eqb-true _ _ (k .0)))
+      ap encode (sym (k .1)) ∙ triple-is (sym e) refl (sym (eqb-true _ _ (k .0)))
   by-op (suc (suc zero)) e =
       let k = spelled-by _ _ _ (decode-goto b actions line t e) in
-      ap encode (sym (k .1)) ∙ triple-is t (sym e) refl refl
+      ap encode (sym (k .1)) ∙ triple-is (sym e) refl refl
   by-op (suc (suc (suc zero))) e =
       let k = spelled-by _ _ _ (decode-call b actions line t e) in
-      ap encode (sym (k .1)) ∙ triple-is t (sym e) refl (sym (eqb-true _ _ (k .0)))
+      ap encode (sym (k .1)) ∙ triple-is (sym e) refl (sym (eqb-true _ _ (k .0)))
   by-op (suc (suc (suc (suc zero)))) e =
       let k = spelled-by _ _ _ (decode-end b actions line t e) in
       let z = both-true _ _ (k .0) in
-      ap encode (sym (k .1)) ∙ triple-is t (sym e) (sym (eqb-true _ _ (z .0))) (sym (eqb-true _ _ (z .1)))
+      ap encode (sym (k .1)) ∙ triple-is (sym e) (sym (eqb-true _ _ (z .0))) (sym (eqb-true _ _ (z .1)))
   by-op (suc (suc (suc (suc (suc op))))) e = absurd (apart w (sym (decode-other b actions line t (omega arith) ∙ h)))
 
   pub encode-decode : encode w ≡ t
   encode-decode = by-op (t .op) refl
+
+-- an instruction is allowed on no line above the last
+pub allowed-line : (b : Bounds) (actions : ℕ) (line : Line) (w : Instruction) → allowed b actions line w ≡ true → line .0 ≤ b .last
+allowed-line b actions line w h = on w (allows b actions line w h)
+  where
+    on : (v : Instruction) → Allowed b actions line v → line .0 ≤ b .last
+    on Empty k = k
+    on (Act action) k = omega arith
+    on (Goto target fact) k = omega arith
+    on (Call procedure) k = omega arith
+    on End k = k .1
+
+-- an instruction that questions 7 and 15 let pass for line l of procedure j
+pub record DecodedFor (b : Bounds) (actions : ℕ) (j : Proc) (l : Line) (t : Triple) (w : Instruction) : Type 0 where
+  pub procedure : j .0 < b .procedures
+  pub line : l .0 ≤ b .last
+  pub op : 0 < t .op
+  pub encodes : encode w ≡ t
+  pub allowed : allowed b actions l w ≡ true
+
+pub decoded-for : (b : Bounds) (actions : ℕ) (j : Proc) (l : Line) (t : Triple) (w : Instruction) → decodeFor b actions j l t ≡ Is w
+    → DecodedFor b actions j l t w
+unfolding decodeFor
+decoded-for b actions j l t w h =
+    let k = keep-is (ltb (j .0) (b .procedures) && ltb 0 (t .op)) _ w h in
+    let both = both-true (ltb (j .0) (b .procedures)) _ (k .0) in
+    let there = decode-allowed b actions l t w (k .1) in
+    record {
+      procedure = ltb-true _ _ (both .0);
+      line = allowed-line b actions l w there;
+      op = ltb-true _ _ (both .1);
+      encodes = encode-decode b actions l t w (k .1);
+      allowed = there;
+    }
 
 pub triple-missing : (bytes : List ℕ) (at : ℕ) → length bytes ≤ at → _≡_ {A = Triple} (record { op = 0; p = 0; q = 0 }) (tripleAt bytes at)
 unfolding tripleAt

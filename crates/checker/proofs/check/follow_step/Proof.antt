@@ -2,7 +2,8 @@
 -- Assumes nothing.
 use mathlib.Core.Path.{sym, _∙_}
 use native.Mathlib.Omega.{arith}
-use Rattle.checker.proofs.Laws.Check.{step-instruction, decoded-allowed, steps-used, none-decoded, step-decoded}
+use Rattle.task.proofs.Laws.Instruction.{decoded-for}
+use Rattle.checker.proofs.Laws.Check.{step-instruction, steps-used, none-decoded, step-decoded}
 use borrow.Author.Needs.{needs}
 use Rattle.checker.proofs.check.follow_step.Statement.{statement}
 use Rattle.checker.proofs.check.follow_step.Tie as tie
@@ -60,8 +61,8 @@ take-step-requires c κs =
     let at-decoded = at-step-of .before .before in
     let at-decode-for = at-decoded .before .before in
     let at-start = at-decode-for .before .before .before .before .before .before .before .before .before .before .before in
-    let w = decoded-allowed _ _ _ _ _ _ (sym (at-decode-for .decode-for .ensures) ∙ at-decoded .decoded .given .1) in
-    (at-start .pre .0, at-start .pre .1, omega arith, rw (at-step-of .step-of .ensures, step-instruction _ _) w)
+    let there = decoded-for _ _ _ _ _ _ (sym (at-decode-for .decode-for .ensures) ∙ at-decoded .decoded .given .1) in
+    (at-start .pre .0, at-start .pre .1, omega arith, rw (at-step-of .step-of .ensures, step-instruction _ _) (there .allowed))
 
 same-length : tie.Need-same-length
 same-length c = search needs

@@ -12,12 +12,13 @@ use lib.Dec.{eqb}
 use borrow.Author.Tests.{eqb-true, eq-eqb}
 use Rattle.records.specs.Numbers.{byteAt}
 use Rattle.records.proofs.Laws.Tests.{both-true}
+use Rattle.task.proofs.Laws.Instruction.{triple-is}
 use Rattle.task.specs.Instruction.{keep, spelled, encode, tripleAt, withTriple}
 use Rattle.task.specs.Program.{sameTriple}
 use Rattle.task.specs.declared.instruction.Triple.{Triple}
 use Rattle.task.specs.declared.instruction.Instruction.{Instruction}
 use Rattle.task.specs.declared.instruction.Instruction.the-variants.{Empty, Act, Goto, Call, End}
 use Rattle.task.specs.declared.instruction.Decoded.the-variants.{Is}
 
 -- an instruction is determined by its three bytes
 pub spelled-encode : (w : Instruction) → spelled (encode w) ≡ Is w
@@ -41,9 +42,6 @@ op-empty (Act action) e = absurd (omega arith)
 op-empty (Goto target fact) e = absurd (omega arith)
 op-empty (Call procedure) e = absurd (omega arith)
 op-empty End e = absurd (omega arith)
-
-triple-is : {v w : Triple} → v .op ≡ w .op → v .p ≡ w .p → v .q ≡ w .q → v ≡ w
-triple-is e f g = λ i. record { op = e i; p = f i; q = g i }
 
 -- the test of three bytes, one after the other, is whether they are the same
 pub same-triple : (v w : Triple) → sameTriple v w ≡ true → v ≡ w
