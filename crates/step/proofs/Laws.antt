@@ -7,4 +7,5 @@ pub mod Kept
 pub mod Perform
 pub mod Possible
 pub mod Ready
+pub mod Run
 pub mod Single

@@ -5,4 +5,5 @@ pub mod Position
 pub mod Possible
 pub mod Questions
 pub mod Ready
+pub mod Run
 pub mod Single

@@ -7,13 +7,15 @@ use lib.ListN.{length}
 use lib.Dec.{ltb, eqb}
 use Rattle.task.specs.Bounds.{lineCount, programSize}
 use Rattle.task.specs.First.{firstNo}
-use Rattle.task.specs.Instruction.{decode, tripleAt}
+use Rattle.task.specs.Instruction.{spelled, decode, tripleAt}
 use Rattle.task.specs.Questions.{PROGRAM-LENGTH, PROGRAM-LINES, PROGRAM-PRESETS}
 use Rattle.task.specs.declared.bounds.Bounds.{Bounds}
 use Rattle.task.specs.declared.index.Index.{Index}
 use Rattle.task.specs.declared.instruction.Line.{Line}
 use Rattle.task.specs.declared.instruction.Proc.{Proc}
 use Rattle.task.specs.declared.instruction.Triple.{Triple}
+use Rattle.task.specs.declared.instruction.Instruction.{Instruction}
+use Rattle.task.specs.declared.instruction.Instruction.the-variants.{Empty}
 use Rattle.task.specs.declared.instruction.Decoded.{Decoded}
 use Rattle.task.specs.declared.instruction.Decoded.the-variants.{Is, Nothing}
 use Rattle.task.specs.declared.verdict.Verdict.{Verdict}
@@ -23,9 +25,21 @@ use Rattle.task.specs.declared.verdict.Verdict.the-variants.{Accepted, R
 unfoldable pub lineOffset : Bounds → Proc → Line → ℕ
 lineOffset b procedure line = 3 * (procedure .0 * (b .last + 1) + line .0)
 
+-- the three bytes on a line of a procedure
+abbrev pub lineBytes : Bounds → List ℕ → Proc → Line → Triple
+lineBytes b program procedure line = tripleAt program (lineOffset b procedure line)
+
 -- the instruction on a line of a procedure, if the line's three bytes spell one that is allowed there
 unfoldable pub instructionOn : Index → List ℕ → Proc → Line → Decoded
-instructionOn i program procedure line = decode (i .bounds) (i .actions) line (tripleAt program (lineOffset (i .bounds) procedure line))
+instructionOn i program procedure line = decode (i .bounds) (i .actions) line (lineBytes (i .bounds) program procedure line)
+
+-- the instruction that they spell, allowed there or not; empty where they spell none
+unfoldable pub spelledOn : Bounds → List ℕ → Proc → Line → Instruction
+spelledOn b program procedure line = on (spelled (lineBytes b program procedure line))
+  where
+    on : Decoded → Instruction
+    on (Is w) = w
+    on Nothing = Empty
 
 -- whether three bytes decoded to an instruction
 unfoldable pub isInstruction : Decoded → Bool

@@ -193,6 +193,11 @@ module _ (bytes : List ℕ) (t : Task) (passed : Passed bytes t) where
     move-sound (begins h k l) a = next-sound i s sound r above _ h l (passed .case (s .case + 1) l .0)
     move-sound (finishes h k l) a = finished-sound i s sound r above h l
 
+  -- with a frame, a possible position's top frame is one that a program has
+  pub top-possible : (s : Position) → possible (t .index) s ≡ true → 0 < s .depth → length (s .frames) ≡ 16
+      → (top s .procedure .0 < t .index .bounds .procedures) × (top s .line .0 ≤ t .index .bounds .last)
+  top-possible s h above room = top-used i s (record { parts = parts i s h; room = room }) r above
+
   -- an instruction that is allowed on the top frame's line keeps a possible position possible
   pub step-possible : (s : Position) → possible (t .index) s ≡ true → 0 < s .depth → s .steps < t .index .bounds .steps → length (s .frames) ≡ 16
       → (w : Instruction) → allowed (t .index .bounds) (t .index .actions) (top s .line) w ≡ true

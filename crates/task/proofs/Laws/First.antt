@@ -1,11 +1,12 @@
 -- The search for the first no, place by place: the test at a place says whether the search goes on or ends there. `Searching` is the
--- invariant of every loop that makes such a search. And a search that finds none comes to every place, so each of them passed.
+-- invariant of every loop that makes such a search. And a search finds none exactly if each place passed.
 -- Assumes nothing.
 use Prim.Native.Nat.{ℕ, zero, suc, _+_, _-_, _≤_, _<_}
 use mathlib.Core.Path.{_≡_, refl, sym, _∙_}
 use mathlib.Core.Bool.{Bool, true, false}
 use native.Mathlib.Numerals.{add-one}
 use native.Mathlib.Omega.{arith}
+use Rattle.records.proofs.Laws.Tests.{cond-either}
 use Rattle.task.specs.First.{firstNoFrom, firstNo}
 
 -- every place below `k` was passed: what the search finds from `k` on is what it finds
@@ -38,6 +39,25 @@ module _ (test : ℕ → Bool) (count : ℕ) where
     found-none h =
         let e : count - k ≡ 0 = omega arith in
         sym (rw e) ∙ s .found
+
+-- the search ends within the places
+pub found-most : (test : ℕ → Bool) (count : ℕ) → firstNo test count ≤ count
+unfolding firstNo firstNoFrom
+found-most test count = omega (arith, from 0 count)
+  where
+    from : (k left : ℕ) → firstNoFrom test k left ≤ k + left
+    from k zero = omega arith
+    from k (suc left) =
+        cond-either (λ (n : ℕ). n ≤ k + suc left) (test k) (firstNoFrom test (suc k) left) k (λ e. omega (arith, from (suc k) left)) (λ e. omega arith)
+
+-- a search at whose places the test says yes
+module _ (test : ℕ → Bool) (count : ℕ) (all : (k : ℕ) → k < count → test k ≡ true) where
+  goes-on : (k : ℕ) → k ≤ count → Searching test count k
+  goes-on zero h = searching test count
+  goes-on (suc k) h = rw add-one at (found-yes test count k (goes-on k (omega arith)) (omega arith) (all k (omega arith)))
+
+  pub all-found : firstNo test count ≡ count
+  all-found = sym (found-none test count count (goes-on count (omega arith)) (omega arith))
 
 -- a search that finds no place
 module _ (test : ℕ → Bool) (count : ℕ) (none : firstNo test count ≡ count) where

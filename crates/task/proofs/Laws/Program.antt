@@ -1,16 +1,18 @@
--- A program's verdict, question by question; and the number of a line in its procedure, as the lines are counted through all
+-- A program's verdict, question by question, and what a program that passes has; and the number of a line in its procedure, as the lines are counted through all
 -- procedures: it grows by one, or starts again at 0.
 -- Assumes nothing.
 use Prim.Native.Nat.{ℕ, _+_, _*_, _/_, _%_, _≤_, _<_}
 use mathlib.Core.List.{List}
 use lib.ListN.{length}
-use mathlib.Core.Bool.{Bool, true, false, _||_}
+use mathlib.Core.Bool.{Bool, true, false, cond, _||_}
 use lib.Dec.{eqb, ltb}
-use borrow.Author.Tests.{lt-ltb, le-ltb, eq-eqb, ne-eqb}
+use borrow.Author.Tests.{lt-ltb, le-ltb, ltb-false, eq-eqb, ne-eqb, eqb-true}
 use mathlib.Core.Path.{_≡_, refl, sym, ap, _∙_}
 use native.Mathlib.Nat.{mod-lt, mod-add-mod, mod-eq-of-lt, mod-self, div-add-mod'}
 use native.Mathlib.Omega.{arith}
-use Rattle.task.specs.Bounds.{lineCount}
+use Rattle.task.proofs.Laws.First.{found-most, all-found, found-all}
+use Rattle.task.proofs.Laws.Verdict.{refused-accepted}
+use Rattle.task.specs.Bounds.{lineCount, programSize}
 use Rattle.task.specs.First.{firstNo}
 use Rattle.task.specs.Instruction.{decode, tripleAt}
 use Rattle.task.specs.Program.{isInstruction, lineAllowed, lineOffset, sameTriple, presetHeld, everyLine, programVerdict}
@@ -19,6 +21,7 @@ use Rattle.task.specs.declared.bounds.Bounds.{Bounds}
 use Rattle.task.specs.declared.index.Index.{Index}
 use Rattle.task.specs.declared.instruction.Triple.{Triple}
 use Rattle.task.specs.declared.instruction.Decoded.{Decoded}
+use Rattle.task.specs.declared.verdict.Verdict.{Verdict}
 use Rattle.task.specs.declared.verdict.Verdict.the-variants.{Accepted, Refused}
 
 module _ (last k line : ℕ) (e : line ≡ k % (last + 1)) where
@@ -80,3 +83,48 @@ preset-test presets program k v w same e f g = rw (← e, ← f) (rw g refl)
 pub line-offset : (b : Bounds) (k : ℕ) → lineOffset b (record { 0 = k / (b .last + 1) }) (record { 0 = k % (b .last + 1) }) ≡ 3 * k
 unfolding lineOffset
 line-offset b k = rw (div-add-mod' k (b .last + 1)) refl
+
+-- a program that passes questions 25 to 27: it has its length, and each of its lines passes
+pub record Passes (i : Index) (presets program : List ℕ) : Type 0 where
+  pub size : length program ≡ programSize (i .bounds)
+  pub lines : (k : ℕ) → k < lineCount (i .bounds) → lineAllowed i program k ≡ true
+  pub held : (k : ℕ) → k < lineCount (i .bounds) → presetHeld presets program k ≡ true
+
+module _ (i : Index) (presets program : List ℕ) where
+  -- a verdict that accepts has come through the question before it
+  every-passed : (question : ℕ) (test : ℕ → Bool) (rest : Verdict) (v : ℕ) → everyLine i question test rest ≡ Accepted v
+      → ((k : ℕ) → k < lineCount (i .bounds) → test k ≡ true) × (rest ≡ Accepted v)
+  unfolding everyLine
+  every-passed question test rest v = on (ltb (firstNo test (lineCount (i .bounds))) (lineCount (i .bounds))) refl
+    where
+      on : (t : Bool) → ltb (firstNo test (lineCount (i .bounds))) (lineCount (i .bounds)) ≡ t
+          → cond t (Refused question (3 * firstNo test (lineCount (i .bounds)))) rest ≡ Accepted v
+          → ((k : ℕ) → k < lineCount (i .bounds) → test k ≡ true) × (rest ≡ Accepted v)
+      on true e h = absurd (refused-accepted h)
+      on false e h = (
+        found-all test (lineCount (i .bounds))
+            (omega (arith, ltb-false (firstNo test (lineCount (i .bounds))) (lineCount (i .bounds)) e, found-most test (lineCount (i .bounds)))),
+        h,
+      )
+
+  pub program-passes : (v : ℕ) → programVerdict i presets program ≡ Accepted v → Passes i presets program
+  unfolding programVerdict
+  program-passes v = on (eqb (length program) (programSize (i .bounds))) refl
+    where
+      on : (t : Bool) → eqb (length program) (programSize (i .bounds)) ≡ t
+          → cond t (everyLine i PROGRAM-LINES (lineAllowed i program) (everyLine i PROGRAM-PRESETS (presetHeld presets program) (Accepted 0)))
+          (Refused PROGRAM-LENGTH 0)
+          ≡ Accepted v
+          → Passes i presets program
+      on true e h =
+          let lines = every-passed PROGRAM-LINES (lineAllowed i program) _ v h in
+          let held = every-passed PROGRAM-PRESETS (presetHeld presets program) _ v (lines .1) in
+          record { size = eqb-true _ _ e; lines = lines .0; held = held .0 }
+      on false e h = absurd (refused-accepted h)
+
+  pub passes-program : Passes i presets program → Accepted 0 ≡ programVerdict i presets program
+  passes-program p =
+      let n = lineCount (i .bounds) in
+      let lines = all-found (lineAllowed i program) n (p .lines) in
+      let held = all-found (presetHeld presets program) n (p .held) in
+      program-good i presets program n refl (p .size) _ refl (omega (arith, lines)) _ refl (omega (arith, held))

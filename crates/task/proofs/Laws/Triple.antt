@@ -12,9 +12,12 @@ use lib.Dec.{eqb}
 use borrow.Author.Tests.{eqb-true, eq-eqb}
 use Rattle.records.specs.Numbers.{byteAt}
 use Rattle.records.proofs.Laws.Tests.{both-true}
-use Rattle.task.proofs.Laws.Instruction.{triple-is}
+use Rattle.task.proofs.Laws.Instruction.{triple-is, encode-decode}
 use Rattle.task.specs.Instruction.{keep, spelled, encode, tripleAt, withTriple}
-use Rattle.task.specs.Program.{sameTriple}
+use Rattle.task.specs.Program.{lineBytes, instructionOn, spelledOn, sameTriple}
+use Rattle.task.specs.declared.index.Index.{Index}
+use Rattle.task.specs.declared.instruction.Line.{Line}
+use Rattle.task.specs.declared.instruction.Proc.{Proc}
 use Rattle.task.specs.declared.instruction.Triple.{Triple}
 use Rattle.task.specs.declared.instruction.Instruction.{Instruction}
 use Rattle.task.specs.declared.instruction.Instruction.the-variants.{Empty, Act, Goto, Call, End}
@@ -33,6 +36,14 @@ pub encode-injective : (v w : Instruction) → encode v ≡ encode w → v ≡ w
 encode-injective v w e =
     let s : Is v ≡ Is w = sym (spelled-encode v) ∙ ap spelled e ∙ spelled-encode w in
     cc
+
+-- an instruction that is decoded on a line has the line's bytes, and is what they spell
+pub decoded-on : (i : Index) (program : List ℕ) (procedure : Proc) (line : Line) (w : Instruction) → instructionOn i program procedure line ≡ Is w
+    → (encode w ≡ lineBytes (i .bounds) program procedure line) × (spelledOn (i .bounds) program procedure line ≡ w)
+unfolding instructionOn spelledOn
+decoded-on i program procedure line w e =
+    let x = encode-decode (i .bounds) (i .actions) line (lineBytes (i .bounds) program procedure line) w e in
+    (x, rw (← x, spelled-encode))
 
 -- only the empty instruction's first byte is 0
 pub op-empty : (w : Instruction) → encode w .op ≡ 0 → w ≡ Empty
