@@ -1,5 +1,6 @@
 // The entries for C and Rust. Each returns its answer as one number: number * 2^32 + value.
 use checker::check::check_plan;
+use checker::write::write_plan;
 use task::reading::read_task;
 use task::verdict::Verdict;
 ghost use mathlib.Core.Path.{_≡_};
@@ -7,6 +8,7 @@ ghost use Prim.Native.Nat.{_^_, _<_};
 ghost use Rattle.task.specs.Reading.{readTask};
 ghost use Rattle.task.specs.Verdict.{valueOf};
 ghost use Rattle.checker.specs.Check.{check};
+ghost use Rattle.checker.specs.Write.{write};
 ghost use Rattle.capi.specs.Packed.{packed};
 
 // An answer as one number.
@@ -38,5 +40,16 @@ pub extern "C" fn pp_check_plan(task: &[u8], plan: &[u8], program: &mut [u8]) ->
         × (now (program .exit) ≡ check (now (task .entry)) (now (plan .entry)) (now (program .entry)) .buffer) ⌝ }
 {
     let verdict = check_plan(task, plan, program);
+    packed(verdict)
+}
+
+// A program's verdict for a task: questions 1 to 9 and 25 to 29, with 14 and 19 to 22 of each step. If it is accepted, its plan fills the
+// buffer's first bytes; a refusal leaves the buffer as it was.
+#[no_mangle]
+pub extern "C" fn pp_write_plan(task: &[u8], program: &[u8], plan: &mut [u8]) -> u64
+    ensures { λ r. ⌜ (r ≡ packed (write (now (task .entry)) (now (program .entry)) (now (plan .entry)) .verdict))
+        × (now (plan .exit) ≡ write (now (task .entry)) (now (program .entry)) (now (plan .entry)) .buffer) ⌝ }
+{
+    let verdict = write_plan(task, program, plan);
     packed(verdict)
 }

@@ -1,4 +1,6 @@
+pub mod Answer
 pub mod Check
 pub mod Outcome
 pub mod Plan
 pub mod Questions
+pub mod Write

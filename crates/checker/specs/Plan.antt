@@ -1,6 +1,6 @@
 -- A plan's steps and its bytes. A step writes an instruction on a line and runs it, or repeats the one that is there; its record has kind 16
 -- or 17 and the bytes procedure, line and instruction. A record of kind 5 with no body closes the file.
-use Prim.Native.Nat.{ℕ, _+_}
+use Prim.Native.Nat.{ℕ, _+_, _*_}
 use mathlib.Core.List.{List, [], _∷_, _++_}
 use mathlib.Core.Bool.{Bool, cond, _||_}
 use lib.Dec.{eqb}
@@ -57,3 +57,7 @@ closing = 0 ∷ 0 ∷ 5 ∷ 0 ∷ []
 unfoldable pub planOf : List PlanStep → List ℕ
 planOf [] = closing
 planOf (s ∷ rest) = recordOf s ++ planOf rest
+
+-- how many bytes a plan of so many steps has: 9 for each step's record, and 4 for the closing one
+unfoldable pub planSize : ℕ → ℕ
+planSize steps = 9 * steps + 4

@@ -1,4 +1,4 @@
--- The questions that the checker alone asks, by their numbers.
+-- The questions that the checker or the writer alone asks, by their numbers.
 use Prim.Native.Nat.{ℕ}
 
 -- whether the buffer has room for the program
@@ -40,3 +40,7 @@ FINISHED = 23
 -- whether the closing record is the last thing in the plan
 abbrev pub PLAN-CLOSED : ℕ
 PLAN-CLOSED = 24
+
+-- the writer, after the finish: whether the buffer has room for the plan
+abbrev pub PLAN-BUFFER : ℕ
+PLAN-BUFFER = 29

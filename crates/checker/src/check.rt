@@ -46,7 +46,8 @@ ghost use Rattle.step.specs.Position.{sameFrame};
 ghost use Rattle.step.specs.Possible.{possible};
 ghost use Rattle.step.specs.Ready.{Bounded, Ready};
 ghost use Rattle.step.specs.Perform.{perform};
-ghost use Rattle.checker.specs.Check.{lineFits, written, onMove, onStep, stepTurn, closeTurn, turnOf, follow, filled, check};
+ghost use Rattle.checker.specs.Answer.{filled};
+ghost use Rattle.checker.specs.Check.{lineFits, written, onMove, onStep, stepTurn, closeTurn, turnOf, follow, check};
 ghost use Rattle.checker.specs.Outcome.{ReadAs, state, turned, followedBy};
 ghost use Rattle.checker.specs.Plan.{instructionOf, isKind, lengthFits};
 ghost use Rattle.checker.specs.declared.check.Outcome.the-variants.{Stopped};
@@ -99,7 +100,7 @@ fn line_fits(held: Triple, step: Step) -> bool
 }
 
 // Fills a step's line, if the step writes it.
-fn write_line(program: &mut [u8], at: usize, step: Step)
+pub(crate) fn write_line(program: &mut [u8], at: usize, step: Step)
     ensures { λ _. ⌜ now (program .exit) ≡ written (now (program .entry)) at step ⌝ }
 {
     match step {
@@ -345,12 +346,12 @@ fn follow(
     }
 }
 
-// Fills the buffer's first bytes with the program's.
-fn fill(buffer: &mut [u8], size: usize, program: &[u8])
-    requires { ⌜ (size ≤ length (now buffer)) × (size ≤ length (now program)) ⌝ }
-    ensures { λ _. ⌜ now (buffer .exit) ≡ filled size (now (program .entry)) (now (buffer .entry)) ⌝ }
+// Fills the buffer's first bytes with those of a program or a plan.
+pub(crate) fn fill(buffer: &mut [u8], size: usize, from: &[u8])
+    requires { ⌜ (size ≤ length (now buffer)) × (size ≤ length (now from)) ⌝ }
+    ensures { λ _. ⌜ now (buffer .exit) ≡ filled size (now (from .entry)) (now (buffer .entry)) ⌝ }
 {
-    copy(&program[..size], buffer);
+    copy(&from[..size], buffer);
 }
 
 // Checks a plan against a task: the verdict, with the number of steps if the plan is accepted. Then the program, the preset

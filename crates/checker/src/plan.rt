@@ -1,7 +1,9 @@
 // A plan's steps.
+use step::position::Frame;
 use task::instruction::Instruction;
+use task::instruction::encode;
 ghost use mathlib.Core.Path.{_≡_};
-ghost use Rattle.checker.specs.Plan.{instructionOf, stepOf};
+ghost use Rattle.checker.specs.Plan.{instructionOf, kindOf, stepOf, recordOf};
 
 // A step writes an instruction on a line and runs it, or repeats the one that is there.
 pub enum Step {
@@ -29,3 +31,34 @@ pub(crate) fn instruction_of(step: Step) -> Instruction
         Step::Repeat(w) => w,
     }
 }
+
+// The kind of a step's record.
+fn kind_of(step: Step) -> u8
+    ensures { λ r. ⌜ r ≡ kindOf step ⌝ }
+{
+    match step {
+        Step::Write(_) => 16,
+        Step::Repeat(_) => 17,
+    }
+}
+
+// The bytes of a step's record.
+pub(crate) fn record_of(frame: Frame, step: Step) -> [u8; 9]
+    ensures { λ r. ⌜ r ≡ recordOf (record { frame = frame; step = step }) ⌝ }
+{
+    let w = encode(instruction_of(step));
+    [
+        5,
+        0,
+        kind_of(step),
+        0,
+        frame.procedure.0,
+        frame.line.0,
+        w.op,
+        w.p,
+        w.q,
+    ]
+}
+
+// The bytes of the closing record.
+pub(crate) const CLOSING: [u8; 4] = [0, 0, 5, 0];

@@ -1,4 +1,4 @@
-// The questions that the checker alone asks, by their numbers.
+// The questions that the checker or the writer alone asks, by their numbers.
 
 // Has the buffer room for the program?
 pub const BUFFER: u8 = 10;
@@ -20,3 +20,5 @@ pub const LINE: u8 = 18;
 pub const FINISHED: u8 = 23;
 // Is the closing record the last thing in the plan?
 pub const PLAN_CLOSED: u8 = 24;
+// The writer, after the finish: has the buffer room for the plan?
+pub const PLAN_BUFFER: u8 = 29;

@@ -22,13 +22,14 @@ use Rattle.task.proofs.Laws.Verdict.{refused-accepted}
 use Rattle.step.specs.Position.{starting}
 use Rattle.step.proofs.Laws.Kept.{starting-possible}
 use Rattle.checker.specs.Check as check
-use Rattle.checker.specs.Check.{Followed, Checked, refused, accepted, turnOf, left, begin, follow, filled, answer, onReading}
+use Rattle.checker.specs.Answer.{Answer, Result, refused, accepted, passing, filled, answer}
+use Rattle.checker.specs.Check.{turnOf, left, begin, follow}
 use Rattle.checker.specs.Plan.{PlanStep, isKind, lengthFits, closing, planOf}
 use Rattle.checker.specs.Questions.{BUFFER, PLAN-RECORD}
 use Rattle.checker.proofs.Laws.Answer.{size-most}
 use Rattle.checker.proofs.Laws.Turns.{accepts-ends, ends-accepts, from, from-begin, from-turn}
 use Rattle.demands.specs.Compiled.{Running, State, Applies, Leads, none, then, initial, Solves}
-use Rattle.demands.specs.Demand2.{programOf, Solution, Demand2, RefusalKeeps}
+use Rattle.demands.specs.Demand2.{programOf, Solution, Demand2, CheckerRefusalKeeps}
 use Rattle.demands.proofs.Laws.Plan.{recordsOf, plan-records, records-more, closing-read, closing-written}
 use Rattle.demands.proofs.Laws.Presets.{presets-hold}
 use Rattle.demands.proofs.Laws.Program.{Holds, holds-bytes}
@@ -68,10 +69,10 @@ module _ (bytes plan : List ℕ) (t : Task) (passed : Passed bytes t) where
     bound : s .position .steps ≤ t .index .bounds .steps
 
   -- an answer that accepts has a solution
-  abbrev Sound : Followed → Type 0
+  abbrev Sound : Result → Type 0
   Sound answer = (k : ℕ) (program : List ℕ) → answer ≡ accepted k program → Solved k program
 
-  come-keeps : (s : check.State) → Come s → (u : Turn check.State Followed) → turnOf bytes (t .index) (t .offsets) plan s ≡ u → Keeps Come Sound u
+  come-keeps : (s : check.State) → Come s → (u : Turn check.State Result) → turnOf bytes (t .index) (t .offsets) plan s ≡ u → Keeps Come Sound u
   come-keeps s come (go u) e =
       let x = turn-action bytes t passed plan s (come .now) (come .stands) u e in
       record {
@@ -128,7 +129,7 @@ module _ (bytes plan : List ℕ) (t : Task) (passed : Passed bytes t) where
         program = s .program;
         comes =
             from-turn bytes (t .index) (t .offsets) plan s
-            ∙ ap (λ (u : Turn check.State Followed). after u (from bytes (t .index) (t .offsets) plan)) ends
+            ∙ ap (λ (u : Turn check.State Result). after u (from bytes (t .index) (t .offsets) plan)) ends
             ∙ ap (λ (k : ℕ). accepted k (s .program)) (omega arith);
         held = record { holds = stands .holds; room = stands .room };
       }
@@ -139,7 +140,7 @@ module _ (bytes plan : List ℕ) (t : Task) (passed : Passed bytes t) where
         program = y .program;
         comes =
             from-turn bytes (t .index) (t .offsets) plan s
-            ∙ ap (λ (u : Turn check.State Followed). after u (from bytes (t .index) (t .offsets) plan)) (x .turns)
+            ∙ ap (λ (u : Turn check.State Result). after u (from bytes (t .index) (t .offsets) plan)) (x .turns)
             ∙ y .comes
             ∙ ap (λ (k : ℕ). accepted k (y .program)) (omega (arith, x .counts));
         held = y .held;
@@ -185,7 +186,7 @@ module _ (bytes plan : List ℕ) (v : ℕ) (e : readTask bytes .verdict ≡ Acce
   module _ (buffer : List ℕ) (room : programSize (t .index .bounds) ≤ length buffer) where
     -- the answer is the plan's
     check-answers : check.check bytes plan buffer ≡ answer (programSize (t .index .bounds)) buffer (follow bytes t plan)
-    unfolding check.check onReading
+    unfolding check.check passing
     check-answers = rw (e, le-leb (programSize (t .index .bounds)) (length buffer) room) refl
 
     -- a program that holds a state's lines fills the buffer with that state's program
@@ -198,12 +199,12 @@ module _ (bytes plan : List ℕ) (v : ℕ) (e : readTask bytes .verdict ≡ Acce
         (holds-bytes (t .index .bounds) program (final .lines) (omega (arith, h .room, size-most (t .index .bounds) (p .bounded))) (h .holds))
 
     module _ (k : ℕ) (filled′ : List ℕ) where
-      accepted-solution : (f : Followed) → follow bytes t plan ≡ f
+      accepted-solution : (f : Result) → follow bytes t plan ≡ f
           → answer (programSize (t .index .bounds)) buffer f ≡ record { verdict = Accepted k; buffer = filled′ } → Solution bytes plan buffer t k filled′
       unfolding answer
-      accepted-solution (refused question place) g h = absurd (refused-accepted (ap (λ (c : Checked). c .verdict) h))
+      accepted-solution (refused question place) g h = absurd (refused-accepted (ap (λ (c : Answer). c .verdict) h))
       accepted-solution (accepted steps program) g h =
-          let n : steps ≡ k = cc (ap (λ (c : Checked). c .verdict) h) in
+          let n : steps ≡ k = cc (ap (λ (c : Answer). c .verdict) h) in
           let x = follow-solved k program (g ∙ ap (λ (m : ℕ). accepted m program) n) in
           record {
             value = v;
@@ -215,7 +216,7 @@ module _ (bytes plan : List ℕ) (v : ℕ) (e : readTask bytes .verdict ≡ Acce
             count = x .count;
             bound = omega (arith, x .bound);
             solves = x .solves;
-            program = sym (ap (λ (c : Checked). c .buffer) h) ∙ program-fills program (x .final) (x .held);
+            program = sym (ap (λ (c : Answer). c .buffer) h) ∙ program-fills program (x .final) (x .held);
           }
 
       solution-accepted : Solution bytes plan buffer t k filled′ → check.check bytes plan buffer ≡ record { verdict = Accepted k; buffer = filled′ }
@@ -230,18 +231,18 @@ module _ (bytes plan : List ℕ) (v : ℕ) (e : readTask bytes .verdict ≡ Acce
 -- an accepted plan's task passes and its buffer is long enough: a task that does not pass and a buffer that is too short are refused
 module _ (bytes plan buffer : List ℕ) (k : ℕ) (filled′ : List ℕ) (h : check.check bytes plan buffer ≡ record { verdict = Accepted k; buffer = filled′ }) where
   not-refused : (question place : ℕ) (after : List ℕ) → check.check bytes plan buffer ≡ record { verdict = Refused question place; buffer = after } → ⊥
-  not-refused question place after g = refused-accepted (ap (λ (c : Checked). c .verdict) (sym g ∙ h))
+  not-refused question place after g = refused-accepted (ap (λ (c : Answer). c .verdict) (sym g ∙ h))
 
   accepted-room : (v : ℕ) (e : readTask bytes .verdict ≡ Accepted v) (b : Bool)
       → leb (programSize (readTask bytes .task .index .bounds)) (length buffer) ≡ b → Solution bytes plan buffer (readTask bytes .task) k filled′
-  unfolding check.check onReading answer
+  unfolding check.check passing answer
   accepted-room v e true f =
       let room = leb-true (programSize (readTask bytes .task .index .bounds)) (length buffer) f in
       accepted-solution bytes plan v e buffer room k filled′ _ refl (sym (check-answers bytes plan v e buffer room) ∙ h)
   accepted-room v e false f = absurd (not-refused BUFFER 0 buffer (rw (e, f) refl))
 
   accepted-passes : (v : Verdict) → readTask bytes .verdict ≡ v → Solution bytes plan buffer (readTask bytes .task) k filled′
-  unfolding check.check onReading
+  unfolding check.check passing answer
   accepted-passes (Refused question place) e = absurd (not-refused question place buffer (rw e refl))
   accepted-passes (Accepted v) e = accepted-room v e _ refl
 
@@ -252,18 +253,12 @@ demand-2 bytes plan buffer k filled′ = (
 )
 
 -- an answer that refuses has the buffer that was given
-answer-keeps : (size : ℕ) (buffer after : List ℕ) (f : Followed) (question place : ℕ)
+pub answer-keeps : (size : ℕ) (buffer after : List ℕ) (f : Result) (question place : ℕ)
     → answer size buffer f ≡ record { verdict = Refused question place; buffer = after } → after ≡ buffer
 unfolding answer
-answer-keeps size buffer after (refused q p) question place h = sym (ap (λ (c : Checked). c .buffer) h)
-answer-keeps size buffer after (accepted k program) question place h = absurd (refused-accepted (sym (ap (λ (c : Checked). c .verdict) h)))
+answer-keeps size buffer after (refused q p) question place h = sym (ap (λ (c : Answer). c .buffer) h)
+answer-keeps size buffer after (accepted k program) question place h = absurd (refused-accepted (sym (ap (λ (c : Answer). c .verdict) h)))
 
-reading-keeps : (bytes plan buffer after : List ℕ) (t : Task) (v : Verdict) (question place : ℕ)
-    → onReading bytes plan buffer t v ≡ record { verdict = Refused question place; buffer = after } → after ≡ buffer
-unfolding onReading
-reading-keeps bytes plan buffer after t (Refused q p) question place h = sym (ap (λ (c : Checked). c .buffer) h)
-reading-keeps bytes plan buffer after t (Accepted v) question place h = answer-keeps _ buffer after _ question place h
-
-pub refusal-keeps : RefusalKeeps
+pub checker-refusal-keeps : CheckerRefusalKeeps
 unfolding check.check
-refusal-keeps bytes plan buffer after question place h = reading-keeps bytes plan buffer after _ _ question place h
+checker-refusal-keeps bytes plan buffer after question place h = answer-keeps _ buffer after _ question place h

@@ -11,16 +11,15 @@ use mathlib.Core.Bool.{true, false, cond}
 use mathlib.Core.List.{List, [], _∷_}
 use lib.ListN.{length, getD}
 use Rattle.task.specs.Index.{actionAt, caseAt}
-use Rattle.task.specs.Instruction.{allowed, spelled, tripleAt}
-use Rattle.task.specs.Program.{lineOffset}
+use Rattle.task.specs.Instruction.{allowed}
+use Rattle.task.specs.Program.{spelledOn}
+use Rattle.task.specs.declared.bounds.Bounds.{Bounds}
 use Rattle.task.specs.declared.index.Case.{Case}
 use Rattle.task.specs.declared.index.Task.{Task}
 use Rattle.task.specs.declared.instruction.Line.{Line}
 use Rattle.task.specs.declared.instruction.Proc.{Proc}
 use Rattle.task.specs.declared.instruction.Instruction.{Instruction}
 use Rattle.task.specs.declared.instruction.Instruction.the-variants.{Empty, Act, Goto, Call, End}
-use Rattle.task.specs.declared.instruction.Decoded.{Decoded}
-use Rattle.task.specs.declared.instruction.Decoded.the-variants.{Is, Nothing}
 use Rattle.step.specs.Effects.{effectsOf, changesOf, clashFree, changed}
 use Rattle.step.specs.Facts.{has, holds}
 use Rattle.step.specs.Position.{sameFrame}
@@ -28,7 +27,7 @@ use Rattle.step.specs.declared.position.Frame.{Frame}
 use Rattle.checker.specs.Plan.{PlanStep}
 use Rattle.checker.specs.declared.plan.Step.the-variants.{Write, Repeat}
 
--- a line of a procedure, as the source's pair
+-- a line of a procedure, as the papers' pair (j, i)
 abbrev pub at : Proc → ℕ → Frame
 at j i = record { procedure = j; line = record { 0 = i } }
 
@@ -50,6 +49,10 @@ pub record State : Type 0 where
 -- the lines with one of them written
 unfoldable pub writtenAt : (Frame → Instruction) → Frame → Instruction → Frame → Instruction
 writtenAt lines f w g = cond (sameFrame f g) w (lines g)
+
+-- the instruction on a line of a program
+abbrev pub instructionAt : Bounds → List ℕ → Frame → Instruction
+instructionAt b program f = spelledOn b program (f .procedure) (f .line)
 
 module _ (bytes : List ℕ) (t : Task) where
   -- case number c: the facts true at its start, and its goal
@@ -130,12 +133,8 @@ module _ (bytes : List ℕ) (t : Task) where
     then : {s u v : State} {a : PlanStep} {rest : List PlanStep} → Applies a s u → Leads u rest v → Leads s (a ∷ rest) v
 
   -- the instruction that a line of the program is preset to, empty where it is not
-  unfoldable pub presetAt : Frame → Instruction
-  presetAt f = preset (spelled (tripleAt (t .presets) (lineOffset (t .index .bounds) (f .procedure) (f .line))))
-    where
-      preset : Decoded → Instruction
-      preset (Is w) = w
-      preset Nothing = Empty
+  abbrev pub presetAt : Frame → Instruction
+  presetAt = instructionAt (t .index .bounds) (t .presets)
 
   -- the initial state: the preset lines, and the first case from its start
   abbrev pub initial : State

@@ -53,8 +53,8 @@ Demand2 =
     → (check bytes plan buffer ≡ record { verdict = Accepted k; buffer = filled }) ↔ Solution bytes plan buffer (readTask bytes .task) k filled
 
 -- and a refusal leaves the buffer as it was
-abbrev pub RefusalKeeps : Type 0
-RefusalKeeps =
+abbrev pub CheckerRefusalKeeps : Type 0
+CheckerRefusalKeeps =
     (bytes plan buffer after : List ℕ) (question place : ℕ)
     → check bytes plan buffer ≡ record { verdict = Refused question place; buffer = after } → after ≡ buffer
 

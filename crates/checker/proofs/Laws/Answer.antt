@@ -1,15 +1,18 @@
--- The checker's answer, by the task's verdict, question 10 and what the plan comes to.
+-- The checker's answer, by the task's verdict, question 10 and what the plan comes to; and the writer's, by the task's verdict, the program's,
+-- what the run comes to and question 29.
 -- Assumes nothing.
 use Prim.Native.Nat.{ℕ, _+_, _*_, _≤_, _<_}
 use mathlib.Core.Path.{_≡_, refl, sym, ap, _∙_}
-use mathlib.Core.Bool.{true}
+use mathlib.Core.Bool.{true, cond}
 use mathlib.Core.List.{List, _++_}
 use native.Mathlib.Nat.{mul-le-mul}
 use native.Mathlib.Omega.{arith}
 use lib.ListN.{length, take, drop}
-use lib.Seq.{length-take-le, take-length}
+use lib.Dec.{leb}
+use lib.Seq.{length-take-le, take-length, take-take}
 use borrow.Author.Tests.{le-leb, lt-leb}
 use Rattle.task.specs.Bounds.{inRange, lineCount, programSize}
+use Rattle.task.specs.Program.{programVerdict}
 use Rattle.task.specs.Reading.{readTask}
 use Rattle.task.specs.declared.bounds.Bounds.{Bounds}
 use Rattle.task.specs.declared.reading.Reading.{Reading}
@@ -17,9 +20,13 @@ use Rattle.task.specs.declared.verdict.Verdict.{Verdict}
 use Rattle.task.specs.declared.verdict.Verdict.the-variants.{Accepted, Refused}
 use Rattle.task.proofs.Laws.Bounds.{ranges}
 use Rattle.task.proofs.Laws.Passed.{passed}
-use Rattle.checker.specs.Check.{Checked, follow, filled, answer, onReading, check}
-use Rattle.checker.specs.Outcome.{followedBy}
-use Rattle.checker.specs.Questions.{BUFFER}
+use Rattle.checker.specs.Answer.{Answer, refused, passing, filled, answer}
+use Rattle.checker.specs.Check.{follow, check}
+use Rattle.checker.specs.Outcome.{followedBy, ranAs}
+use Rattle.checker.specs.Plan.{planSize}
+use Rattle.checker.specs.Questions.{BUFFER, PLAN-BUFFER}
+use Rattle.checker.specs.Write.{run, programResult, onFinish, write}
+use Rattle.checker.proofs.Laws.Write.{run-within}
 
 -- a program has at most 768 bytes
 pub size-most : (b : Bounds) → inRange b ≡ true → programSize b ≤ 768
@@ -43,13 +50,16 @@ unfolding filled
 copied-fills size program buffer after h e = e ∙ rw (take-length (take size program), length-take-le size program h) refl
 
 module _ (bytes plan buffer : List ℕ) (r : Reading) (e : r ≡ readTask bytes) where
-  on-reading : onReading bytes plan buffer (r .task) (r .verdict) ≡ check bytes plan buffer
+  on-reading : answer (programSize (r .task .index .bounds)) buffer
+      (passing (r .verdict)
+      (cond (leb (programSize (r .task .index .bounds)) (length buffer)) (follow bytes (r .task) plan) (refused BUFFER 0)))
+      ≡ check bytes plan buffer
   unfolding check
   on-reading = rw e refl
 
   pub task-refused : (question place : ℕ) → r .verdict ≡ Refused question place
-      → _≡_ {A = Checked} (record { verdict = r .verdict; buffer = buffer }) (check bytes plan buffer)
-  unfolding onReading
+      → _≡_ {A = Answer} (record { verdict = r .verdict; buffer = buffer }) (check bytes plan buffer)
+  unfolding passing answer
   task-refused question place h = rw h (rw h at on-reading)
 
   -- `lines` is how many lines a program has
@@ -57,22 +67,79 @@ module _ (bytes plan buffer : List ℕ) (r : Reading) (e : r ≡ readTask bytes)
     size : programSize (r .task .index .bounds) ≡ 3 * lines
     size = ap (λ (n : ℕ). 3 * n) (sym es)
 
-    pub buffer-short : length buffer < 3 * lines → _≡_ {A = Checked} (record { verdict = Refused BUFFER 0; buffer = buffer }) (check bytes plan buffer)
-    unfolding onReading answer
+    pub buffer-short : length buffer < 3 * lines → _≡_ {A = Answer} (record { verdict = Refused BUFFER 0; buffer = buffer }) (check bytes plan buffer)
+    unfolding passing answer
     buffer-short l = rw (h, size, lt-leb (3 * lines) (length buffer) l) at on-reading
 
     -- `v` and `program` are what the plan came to
     module _ (room : 3 * lines ≤ length buffer) (v : Verdict) (program : List ℕ) (f : followedBy v program ≡ follow bytes (r .task) plan) where
       answered : answer (3 * lines) buffer (followedBy v program) ≡ check bytes plan buffer
-      unfolding onReading
+      unfolding passing
       answered = rw f (rw (h, size, le-leb (3 * lines) (length buffer) room) at on-reading)
 
       pub plan-refused : (question place : ℕ) → v ≡ Refused question place
-          → _≡_ {A = Checked} (record { verdict = v; buffer = buffer }) (check bytes plan buffer)
+          → _≡_ {A = Answer} (record { verdict = v; buffer = buffer }) (check bytes plan buffer)
       unfolding answer followedBy
       plan-refused question place k = rw k (rw k at answered)
 
       pub plan-accepted : (steps : ℕ) → v ≡ Accepted steps → (after : List ℕ) → after ≡ filled (3 * lines) program buffer
-          → _≡_ {A = Checked} (record { verdict = v; buffer = after }) (check bytes plan buffer)
+          → _≡_ {A = Answer} (record { verdict = v; buffer = after }) (check bytes plan buffer)
       unfolding answer followedBy
       plan-accepted steps k after g = rw (k, g) (rw k at answered)
+
+-- a plan has at most 36868 bytes: 9 for each of 4096 steps, and the closing record
+pub plan-most : (bytes program : List ℕ) (r : Reading) → r ≡ readTask bytes → (value : ℕ) → r .verdict ≡ Accepted value
+    → (u : Verdict) (plan : List ℕ) → ranAs u plan ≡ run bytes (r .task) program → (steps : ℕ) → u ≡ Accepted steps → 9 * steps + 4 ≤ 36868
+unfolding ranAs
+plan-most bytes program r e value h u plan f steps d =
+    let p = passed bytes value (sym (ap (λ (x : Reading). x .verdict) e) ∙ h) in
+    let t = ap (λ (x : Reading). x .task) e in
+    let ran = rw d at f in
+    let few = rw (← ran) at (run-within bytes (r .task .index) (r .task .offsets) program (r .task .presets)) in
+    omega (arith, rw (← t) at (ranges _ (p .bounded) .steps), few)
+
+module _ (bytes program buffer : List ℕ) (r : Reading) (e : r ≡ readTask bytes) where
+  on-task : onFinish buffer (passing (r .verdict) (passing (programVerdict (r .task .index) (r .task .presets) program) (run bytes (r .task) program)))
+      ≡ write bytes program buffer
+  unfolding write programResult
+  on-task = rw e refl
+
+  pub task-turned-down : (question place : ℕ) → r .verdict ≡ Refused question place
+      → _≡_ {A = Answer} (record { verdict = r .verdict; buffer = buffer }) (write bytes program buffer)
+  unfolding passing onFinish answer
+  task-turned-down question place h = rw h (rw h at on-task)
+
+  -- `v` is the program's own verdict
+  module _ (value : ℕ) (h : r .verdict ≡ Accepted value) (v : Verdict) (ev : v ≡ programVerdict (r .task .index) (r .task .presets) program) where
+    on-program : onFinish buffer (passing v (run bytes (r .task) program)) ≡ write bytes program buffer
+    unfolding passing
+    on-program = rw ev (rw h at on-task)
+
+    pub program-refused : (question place : ℕ) → v ≡ Refused question place
+        → _≡_ {A = Answer} (record { verdict = v; buffer = buffer }) (write bytes program buffer)
+    unfolding passing onFinish answer
+    program-refused question place k = rw k (rw k at on-program)
+
+    -- `u` and `plan` are what the run came to
+    module _ (zero : ℕ) (k : v ≡ Accepted zero) (u : Verdict) (plan : List ℕ) (f : ranAs u plan ≡ run bytes (r .task) program) where
+      on-run : onFinish buffer (ranAs u plan) ≡ write bytes program buffer
+      unfolding passing
+      on-run = rw f (rw k at on-program)
+
+      pub run-refused : (question place : ℕ) → u ≡ Refused question place
+          → _≡_ {A = Answer} (record { verdict = u; buffer = buffer }) (write bytes program buffer)
+      unfolding ranAs onFinish answer
+      run-refused question place d = rw d (rw d at on-run)
+
+      module _ (steps : ℕ) (d : u ≡ Accepted steps) where
+        pub buffer-small : length buffer < 9 * steps + 4
+            → _≡_ {A = Answer} (record { verdict = Refused PLAN-BUFFER (9 * steps + 4); buffer = buffer }) (write bytes program buffer)
+        unfolding ranAs planSize onFinish answer
+        buffer-small l = rw (d, lt-leb (9 * steps + 4) (length buffer) l) at on-run
+
+        pub plan-written : 9 * steps + 4 ≤ length buffer → (after : List ℕ) → after ≡ filled (9 * steps + 4) plan buffer
+            → _≡_ {A = Answer} (record { verdict = Accepted steps; buffer = after }) (write bytes program buffer)
+        unfolding ranAs planSize onFinish answer filled
+        plan-written room after g =
+            rw g
+            (rw (d, le-leb (9 * steps + 4) (length buffer) room, take-take (9 * steps + 4) (9 * steps + 4) plan (omega arith)) at on-run)

@@ -35,7 +35,8 @@ use Rattle.step.specs.declared.perform.Stepped.{Stepped}
 use Rattle.step.specs.declared.position.Frame.{Frame}
 use Rattle.step.specs.declared.position.Position.{Position}
 use Rattle.step.proofs.Laws.Possible.{parts, case-open}
-use Rattle.checker.specs.Check.{Followed, lineFits, written, onMove, onStep, onDecoded, stepTurn, closeTurn, onRecord, turnOf}
+use Rattle.checker.specs.Answer.{Result}
+use Rattle.checker.specs.Check.{lineFits, written, onMove, onStep, onDecoded, stepTurn, closeTurn, onRecord, turnOf}
 use Rattle.checker.specs.Outcome.{state, turned}
 use Rattle.checker.specs.Plan.{instructionOf, stepOf, isKind, lengthFits, frameAt}
 use Rattle.checker.specs.Questions.{PLAN-RECORD, PLAN-KIND, PLAN-LENGTH, ALLOWED, OPEN, TOP, LINE, FINISHED, PLAN-CLOSED}
@@ -127,7 +128,7 @@ module _ (bytes : List ℕ) (i : Index) (offsets : List ℕ) (at : ℕ) (p : Pos
         line-differs h = ask-no _ _ _ (cc) ∙ ask-yes _ _ _ (cc) ∙ ask-yes _ _ _ (lt-ltb (p .case) (i .cases) o)
 
         pub step-taken : l ≡ true → (after : List ℕ) → after ≡ written program offset step → (w : Instruction) → w ≡ instructionOf step
-            → (t : Turn _ Followed) → t ≡ onMove at next after (perform bytes i offsets p w)
+            → (t : Turn _ Result) → t ≡ onMove at next after (perform bytes i offsets p w)
             → t ≡ onStep bytes i offsets (state at p program) next f step
         unfolding onStep
         step-taken h after ea w ew t et =
@@ -152,7 +153,7 @@ module _ (bytes : List ℕ) (i : Index) (offsets : List ℕ) (at : ℕ) (p : Pos
       none-decoded h = rw h at on-decoded
 
       pub step-decoded : (x : Instruction) → d ≡ Is x → (step : Step) → step ≡ stepOf kind x
-          → (t : Turn _ Followed) → t ≡ onStep bytes i offsets (state at p program) next f step
+          → (t : Turn _ Result) → t ≡ onStep bytes i offsets (state at p program) next f step
           → t ≡ stepTurn bytes i offsets (state at p program) plan kind body next
       unfolding onDecoded
       step-decoded x h step es t et = et ∙ cc (es) ∙ rw h at on-decoded
@@ -179,7 +180,7 @@ module _ (bytes : List ℕ) (i : Index) (offsets plan : List ℕ) (at : ℕ) (p 
           unfolding turned onRecord
           length-differs h = ask-no _ _ _ (sym el ∙ h) ∙ ask-yes _ _ _ (sym ek ∙ y) ∙ on-record
 
-          module _ (z : l ≡ true) (t : Turn _ Followed) where
+          module _ (z : l ≡ true) (t : Turn _ Result) where
             pub closing-record : kind ≡ 5 → t ≡ closeTurn i plan (state at p program) next → t ≡ turnOf bytes i offsets plan (state at p program)
             unfolding onRecord
             closing-record h d =

@@ -33,7 +33,8 @@ use Rattle.step.specs.declared.position.Frame.{Frame}
 use Rattle.step.specs.declared.position.Position.{Position}
 use Rattle.step.proofs.Laws.Kept.{step-possible}
 use Rattle.step.proofs.Laws.Possible.{parts, case-open}
-use Rattle.checker.specs.Check.{State, Followed, refused, accepted, lineFits, written, onMove, onStep, onDecoded, stepTurn, closeTurn, onRecord, turnOf, left, begin, follow}
+use Rattle.checker.specs.Answer.{Result, refused, accepted}
+use Rattle.checker.specs.Check.{State, lineFits, written, onMove, onStep, onDecoded, stepTurn, closeTurn, onRecord, turnOf, left, begin, follow}
 use Rattle.checker.specs.Outcome.{ReadAs, state, turned}
 use Rattle.checker.specs.Plan.{stepOf, isKind, lengthFits, frameAt}
 use Rattle.checker.specs.Questions.{PLAN-RECORD, PLAN-CLOSED}
@@ -95,14 +96,14 @@ module _ (bytes : List ℕ) (i : Index) (offsets plan : List ℕ) (s : State) wh
     pub same : program ≡ s .program
 
   -- what an answer says: a refusal has the record's offset as its place, or for 24 the offset behind the closing record
-  abbrev Ended : Followed → Type 0
+  abbrev Ended : Result → Type 0
   Ended (refused question place) = place ≤ s .at + 4
   Ended (accepted steps program) = Ends steps program
 
-  abbrev Says : Turn State Followed → Type 0
+  abbrev Says : Turn State Result → Type 0
   Says = Keeps Went Ended
 
-  ask-says : (answer : Bool) (question : ℕ) (rest : Turn State Followed) → (answer ≡ true → Says rest) → Says (ask answer (refused question (s .at)) rest)
+  ask-says : (answer : Bool) (question : ℕ) (rest : Turn State Result) → (answer ≡ true → Says rest) → Says (ask answer (refused question (s .at)) rest)
   ask-says answer question rest k = ask-keeps Went Ended answer _ rest (omega arith) k
 
   module _ (kind body size next : ℕ) where
@@ -242,7 +243,7 @@ turn-stands bytes t passed plan s u h e =
     rw (w .to) (step-possible bytes t passed p (h .0) above (k .few) (h .1) (w .instruction) (rw same at line) (w .position) (k .moves))
 
 -- what the plan comes to from a state on
-unfoldable pub from : List ℕ → Index → List ℕ → List ℕ → State → Followed
+unfoldable pub from : List ℕ → Index → List ℕ → List ℕ → State → Result
 from bytes i offsets plan = loop (turnOf bytes i offsets plan) (left plan) (refused PLAN-RECORD 0)
 
 module _ (bytes : List ℕ) (i : Index) (offsets plan : List ℕ) where
@@ -265,9 +266,9 @@ module _ (bytes : List ℕ) (i : Index) (offsets plan : List ℕ) where
     pub next-falls : (at : ℕ) → outcome ≡ Next at → length plan - at < left plan s
     next-falls at h = falls bytes i offsets plan s _ (next-goes at h)
 
-    module _ (whole : Followed) (r : from bytes i offsets plan s ≡ whole) where
+    module _ (whole : Result) (r : from bytes i offsets plan s ≡ whole) where
       rest : after (turned outcome p program) (from bytes i offsets plan) ≡ whole
-      rest = ap (λ (t : Turn State Followed). after t (from bytes i offsets plan)) e ∙ sym (from-turn s) ∙ r
+      rest = ap (λ (t : Turn State Result). after t (from bytes i offsets plan)) e ∙ sym (from-turn s) ∙ r
 
       pub from-next : (at : ℕ) → outcome ≡ Next at → from bytes i offsets plan (state at p program) ≡ whole
       unfolding turned after

@@ -80,7 +80,7 @@ frame-behind : (plan : List ℕ) (at : ℕ) → frameAt plan at ≡ frameAt (dro
 unfolding frameAt
 frame-behind plan at = cc (byte-behind plan at 0, byte-behind plan at 1, add-zero at)
 
-triple-behind : (plan : List ℕ) (at k : ℕ) → tripleAt plan (at + k) ≡ tripleAt (drop at plan) k
+pub triple-behind : (plan : List ℕ) (at k : ℕ) → tripleAt plan (at + k) ≡ tripleAt (drop at plan) k
 unfolding tripleAt
 triple-behind plan at k = simp (← byte-behind, add-assoc)
 

@@ -18,7 +18,7 @@ use Rattle.task.proofs.Laws.Kept.{least, Follows, Kinds, reading-keeps}
 use Rattle.task.proofs.Laws.Verdict.{refused-accepted}
 use Rattle.task.specs.Bounds.{boundsAt, lineCount, programSize}
 use Rattle.task.specs.Instruction.{allowed, decodeFor, encode, tripleAt, withTriple}
-use Rattle.task.specs.Program.{lineOffset}
+use Rattle.task.specs.Program.{lineOffset, spelledOn}
 use Rattle.task.specs.Reading.{State, noIndex, noTask, begin, refused, accepted, headerTurn, actionTurn, onPreset, presetTurn, caseTurn, closeTurn, readTask}
 use Rattle.task.specs.declared.bounds.Bounds.{Bounds}
 use Rattle.task.specs.declared.index.Task.{Task}
@@ -35,7 +35,8 @@ use Rattle.checker.proofs.Laws.Check.{same-frame}
 use Rattle.checker.specs.Plan.{frameAt}
 use Rattle.step.specs.Position.{sameFrame}
 use Rattle.demands.specs.Compiled.{writtenAt, presetAt}
-use Rattle.demands.proofs.Laws.Program.{Inside, Holds, holds-written}
+use Rattle.demands.specs.Demand3.{Inside}
+use Rattle.demands.proofs.Laws.Program.{Holds, holds-written}
 use Rattle.task.proofs.Laws.Triple.{spelled-encode}
 
 -- lines that have an instruction that is allowed there
@@ -51,7 +52,7 @@ record Lawful (b : Bounds) (actions : ℕ) (presets : List ℕ) : Type 0 where
 -- the presets that they are read as are those lines
 module _ (bytes : List ℕ) (t : Task) (lawful : Lawful (t .index .bounds) (t .index .actions) (t .presets)) where
   preset-line : (f : Frame) → Inside (t .index .bounds) f → presetAt bytes t f ≡ lawful .lines f
-  unfolding presetAt
+  unfolding spelledOn
   preset-line f h = rw (lawful .holds f h, spelled-encode)
 
 -- zeros are lawful: the empty instruction on all lines

@@ -29,34 +29,34 @@ use Rattle.step.specs.Position.{sameFrame}
 use Rattle.checker.specs.declared.plan.Step.the-variants.{Write, Repeat}
 use Rattle.demands.specs.Compiled.{writtenAt}
 use Rattle.demands.specs.Demand2.{lineOf, bytesFrom, programOf}
+use Rattle.demands.specs.Demand3.{Inside, bytesOn}
 use Rattle.task.proofs.Laws.Triple.{encode-injective, op-empty, same-triple, triple-same, put-here, put-other}
-
--- a frame whose procedure and line a program has
-pub record Inside (b : Bounds) (f : Frame) : Type 0 where
-  pub procedure : f .procedure .0 < b .procedures
-  pub line : f .line .0 ≤ b .last
-
--- the three bytes on a frame's line
-abbrev pub heldOn : Bounds → List ℕ → Frame → Triple
-heldOn b program f = tripleAt program (lineOffset b (f .procedure) (f .line))
 
 -- a program that holds, on every line that it has, the instruction that the line is said to have
 abbrev pub Holds : Bounds → List ℕ → (Frame → Instruction) → Type 0
-Holds b program lines = (f : Frame) → Inside b f → heldOn b program f ≡ encode (lines f)
+Holds b program lines = (f : Frame) → Inside b f → bytesOn b program f ≡ encode (lines f)
 
 -- question 18 asks of the bytes what the compiled task asks of the lines
 module _ (b : Bounds) (program : List ℕ) (lines : Frame → Instruction) (holds : Holds b program lines) (f : Frame) (inside : Inside b f)
     (w : Instruction) where
-  pub write-fits : (lineFits (heldOn b program f) (Write w) ≡ true) ↔ (lines f ≡ Empty)
+  pub write-fits : (lineFits (bytesOn b program f) (Write w) ≡ true) ↔ (lines f ≡ Empty)
   unfolding lineFits encode
   write-fits =
       let op = ap (λ (t : Triple). t .op) (holds f inside) in
       (λ h. op-empty (lines f) (sym op ∙ eqb-true _ 0 h), λ e. eq-eqb _ 0 (op ∙ ap (λ (v : Instruction). encode v .op) e))
 
-  pub repeat-fits : (lineFits (heldOn b program f) (Repeat w) ≡ true) ↔ (lines f ≡ w)
+  pub repeat-fits : (lineFits (bytesOn b program f) (Repeat w) ≡ true) ↔ (lines f ≡ w)
   unfolding lineFits
   repeat-fits =
       (λ h. encode-injective (lines f) w (sym (holds f inside) ∙ same-triple _ _ h), λ e. rw (holds f inside, e) (triple-same (encode w)))
+
+-- an instruction that is not empty has a first byte above 0
+pub op-above : (w : Instruction) → (w ≡ Empty → ⊥) → 0 < encode w .op
+op-above w n = by (encode w .op) refl
+  where
+    by : (op : ℕ) → encode w .op ≡ op → 0 < encode w .op
+    by zero e = absurd (n (op-empty w e))
+    by (suc op) e = omega arith
 
 -- every frame is the same as itself, as question 17 asks it
 pub frame-same : (f : Frame) → sameFrame f f ≡ true
@@ -65,10 +65,10 @@ frame-same f = simp (eq-eqb (f .procedure .0) (f .procedure .0) refl, eq-eqb (f 
 
 -- a line's number, counted through all procedures, and back: lines that are not the same have other numbers
 module _ (b : Bounds) where
-  abbrev number : Frame → ℕ
+  abbrev pub number : Frame → ℕ
   number f = f .procedure .0 * (b .last + 1) + f .line .0
 
-  number-line : (f : Frame) → f .line .0 ≤ b .last → lineOf b (number f) ≡ f
+  pub number-line : (f : Frame) → f .line .0 ≤ b .last → lineOf b (number f) ≡ f
   unfolding lineOf
   number-line f h =
       let j = f .procedure .0 in
@@ -83,7 +83,7 @@ module _ (b : Bounds) where
       let same : g ≡ f = sym (number-line g (k .line)) ∙ ap (lineOf b) n ∙ number-line f (h .line) in
       true≢false (sym (frame-same f) ∙ ap (sameFrame f) (sym same) ∙ e)
 
-  line-inside : (k : ℕ) → k < lineCount b → Inside b (lineOf b k)
+  pub line-inside : (k : ℕ) → k < lineCount b → Inside b (lineOf b k)
   unfolding lineOf lineCount
   line-inside k h =
       record {
@@ -95,6 +95,9 @@ module _ (b : Bounds) where
   number-below : (f : Frame) → Inside b f → 3 * number f + 3 ≤ programSize b
   unfolding lineCount
   number-below f h = omega (arith, mul-le-mul-right (b .last + 1) (h .procedure))
+
+  pub number-less : (f : Frame) → Inside b f → number f < lineCount b
+  number-less f h = omega (arith, number-below f h)
 
 module _ (b : Bounds) (program : List ℕ) (lines : Frame → Instruction) (room : programSize b ≤ length program)
     (holds : Holds b program lines) where

@@ -3,7 +3,7 @@
 -- goes on applies the action that its record spells, and an action that applies is what the turn does with the action's record; and the states
 -- afterwards stand for one another again.
 -- Assumes nothing.
-use Prim.Native.Nat.{ℕ, zero, suc, _+_, _≤_, _<_}
+use Prim.Native.Nat.{ℕ, _+_, _≤_, _<_}
 use mathlib.Core.Path.{_≡_, refl, sym, ap, _∙_, subst}
 use mathlib.Core.Bool.{true, _&&_}
 use mathlib.Core.List.{List, _++_}
@@ -40,18 +40,18 @@ use Rattle.checker.proofs.Laws.Answer.{size-most}
 use Rattle.checker.proofs.Laws.Check.{same-frame, step-instruction}
 use Rattle.checker.proofs.Laws.Turns.{reached, Went, goes-went, went-goes, Standing, turn-stands}
 use Rattle.demands.specs.Compiled.{State, Running, writtenAt, Runs, MayStand, Applies, writes, repeats}
+use Rattle.demands.specs.Demand3.{Inside, bytesOn}
 use Rattle.demands.proofs.Laws.Plan.{step-read, step-written, step-again}
-use Rattle.demands.proofs.Laws.Program.{Inside, heldOn, Holds, write-fits, repeat-fits, frame-same, holds-written}
+use Rattle.demands.proofs.Laws.Program.{Holds, write-fits, repeat-fits, op-above, frame-same, holds-written}
 use Rattle.demands.proofs.Laws.Runs.{runningOf, performs-runs, runs-performs, runs-above}
-use Rattle.task.proofs.Laws.Triple.{op-empty}
 
 -- what a step asks of its line: a write that it is empty, a repeat that it holds the instruction
-abbrev Fits : (Frame → Instruction) → Frame → Step → Type 0
+abbrev pub Fits : (Frame → Instruction) → Frame → Step → Type 0
 Fits lines f (Write w) = lines f ≡ Empty
 Fits lines f (Repeat w) = lines f ≡ w
 
 -- the lines after a step
-abbrev linesAfter : (Frame → Instruction) → Frame → Step → Frame → Instruction
+abbrev pub linesAfter : (Frame → Instruction) → Frame → Step → Frame → Instruction
 linesAfter lines f (Write w) = writtenAt lines f w
 linesAfter lines f (Repeat w) = lines
 
@@ -95,15 +95,10 @@ module _ (bytes : List ℕ) (t : Task) (f : Frame) (w : Instruction) where
   may-decoded : MayStand bytes t f w → decodeFor b (t .index .actions) (f .procedure) (f .line) (encode w) ≡ Is w
   unfolding decodeFor
   may-decoded m =
-      let first : 0 < encode w .op = above (encode w .op) refl in
-      sym (keep-yes (ltb (f .procedure .0) (b .procedures) && ltb 0 (encode w .op)) _ (simp (lt-ltb _ _ (m .procedure), lt-ltb 0 _ first)))
+      sym (keep-yes (ltb (f .procedure .0) (b .procedures) && ltb 0 (encode w .op)) _ (simp (lt-ltb _ _ (m .procedure), lt-ltb 0 _ (op-above w (m .instruction)))))
       ∙ decode-encode b (t .index .actions) (f .line) w (m .allowed)
-    where
-      above : (op : ℕ) → encode w .op ≡ op → 0 < encode w .op
-      above zero e = absurd (m .instruction (op-empty w e))
-      above (suc op) e = omega arith
 
-  may-inside : MayStand bytes t f w → Inside (t .index .bounds) f
+  pub may-inside : MayStand bytes t f w → Inside (t .index .bounds) f
   may-inside m = record { procedure = m .procedure; line = allowed-line b (t .index .actions) (f .line) w (m .allowed) }
 
 module _ (bytes : List ℕ) (t : Task) (passed : Passed bytes t) where
@@ -114,10 +109,10 @@ module _ (bytes : List ℕ) (t : Task) (passed : Passed bytes t) where
     pub standing : Standing (t .index) (s .position)
     pub room : length (s .program) ≡ 768
 
-  stack-most : t .index .bounds .stack ≤ 16
+  pub stack-most : t .index .bounds .stack ≤ 16
   stack-most = ranges (t .index .bounds) (passed .bounded) .stack .1
 
-  depth-most : (p : Position) → possible (t .index) p ≡ true → 0 < p .depth → p .depth ≤ 16
+  pub depth-most : (p : Position) → possible (t .index) p ≡ true → 0 < p .depth → p .depth ≤ 16
   depth-most p h above = omega (arith, stack-most, depth-open (t .index) p (parts (t .index) p h .depth) above)
 
   size-room : (program : List ℕ) → length program ≡ 768 → programSize (t .index .bounds) ≤ length program
@@ -126,18 +121,18 @@ module _ (bytes : List ℕ) (t : Task) (passed : Passed bytes t) where
   module _ (program : List ℕ) (lines : Frame → Instruction) (holds : Holds (t .index .bounds) program lines) (f : Frame)
       (inside : Inside (t .index .bounds) f) where
     -- question 18 is what a step asks of its line
-    line-fits : (step : Step) → (lineFits (heldOn (t .index .bounds) program f) step ≡ true) ↔ Fits lines f step
+    line-fits : (step : Step) → (lineFits (bytesOn (t .index .bounds) program f) step ≡ true) ↔ Fits lines f step
     line-fits (Write w) = write-fits (t .index .bounds) program lines holds f inside w
     line-fits (Repeat w) = repeat-fits (t .index .bounds) program lines holds f inside w
 
     -- the bytes after a step hold the lines after it
-    step-holds : length program ≡ 768 → (step : Step)
+    pub step-holds : length program ≡ 768 → (step : Step)
         → Holds (t .index .bounds) (written program (lineOffset (t .index .bounds) (f .procedure) (f .line)) step) (linesAfter lines f step)
     unfolding written
     step-holds room (Write w) = holds-written (t .index .bounds) program lines (size-room program room) holds f inside w
     step-holds room (Repeat w) = holds
 
-  step-room : (program : List ℕ) (at : ℕ) (step : Step) → length (written program at step) ≡ length program
+  pub step-room : (program : List ℕ) (at : ℕ) (step : Step) → length (written program at step) ≡ length program
   unfolding written
   step-room program at (Write w) = put-length program at (encode w)
   step-room program at (Repeat w) = refl
