@@ -1,4 +1,4 @@
-"""What the make-input scripts share: task files from their parts, examples, and the stored input and output of a test program."""
+"""What the scripts that write or run tests share: task files from their parts, examples, and the stored input and output of a test program."""
 import os
 import struct
 

@@ -1,0 +1,4 @@
+// The program in an empty folder: both files count as empty.
+fn main() {
+    plan_files::check_files();
+}

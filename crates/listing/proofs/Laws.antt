@@ -1,0 +1,3 @@
+-- The laws of the definitions in specs/, each in a file with the definition's name.
+pub mod Decimal
+pub mod Page

@@ -1,0 +1,4 @@
+pub mod Decimal
+pub mod Listing
+pub mod Page
+pub mod Words

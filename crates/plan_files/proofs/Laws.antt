@@ -1,0 +1,2 @@
+-- The laws of the definitions in specs/, each in a file with the definition's name.
+pub mod Files
