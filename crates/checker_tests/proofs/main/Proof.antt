@@ -16,8 +16,8 @@ large-buffer-requires c κs = search needs
 slice-aggregate-space : tie.Need-slice-aggregate-space Inv-loop μ-loop
 slice-aggregate-space c = search needs
 
-buffer-requires : tie.Need-buffer-requires Inv-loop μ-loop
-buffer-requires c κs = search needs
+large-buffer-requires-2 : tie.Need-large-buffer-requires-2 Inv-loop μ-loop
+large-buffer-requires-2 c κs = search needs
 
 slice-aggregate-lent : tie.Need-slice-aggregate-lent Inv-loop μ-loop
 slice-aggregate-lent c = search needs
@@ -51,7 +51,7 @@ main-spec =
     μ-loop
     large-buffer-requires
     slice-aggregate-space
-    buffer-requires
+    large-buffer-requires-2
     slice-aggregate-lent
     loop-holds
     answer-one-requires

@@ -9,20 +9,20 @@ use Rattle.checker_tests.proofs.write_request.Tie as tie
 returns : tie.Need-returns
 returns c = search needs
 
-slice-aggregate-write-check : tie.Need-slice-aggregate-write-check
-slice-aggregate-write-check c = simp length-take (omega arith)
+slice-aggregate-write-answer : tie.Need-slice-aggregate-write-answer
+slice-aggregate-write-answer c = simp length-take (omega arith)
 
-sub-write-check : tie.Need-sub-write-check
-sub-write-check c = search needs
+sub-write-answer : tie.Need-sub-write-answer
+sub-write-answer c = search needs
 
-part-write-check-start : tie.Need-part-write-check-start
-part-write-check-start c = search needs
+part-write-answer-start : tie.Need-part-write-answer-start
+part-write-answer-start c = search needs
 
-part-write-check-end : tie.Need-part-write-check-end
-part-write-check-end c = search needs
+part-write-answer-end : tie.Need-part-write-answer-end
+part-write-answer-end c = search needs
 
-write-check-requires : tie.Need-write-check-requires
-write-check-requires c κs = search needs
+write-answer-requires : tie.Need-write-answer-requires
+write-answer-requires c κs = search needs
 
 same-length : tie.Need-same-length
 same-length c = search needs
@@ -35,10 +35,10 @@ write-request-spec =
     tie.close
     (tie.spec
     returns
-    slice-aggregate-write-check
-    sub-write-check
-    part-write-check-start
-    part-write-check-end
-    write-check-requires
+    slice-aggregate-write-answer
+    sub-write-answer
+    part-write-answer-start
+    part-write-answer-end
+    write-answer-requires
     same-length
     returns-2)
