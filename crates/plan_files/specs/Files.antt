@@ -10,7 +10,7 @@ use Rattle.checker.specs.Answer.{Answer}
 use Rattle.checker.specs.Check.{check}
 use Rattle.listing.specs.Listing.{reportText}
 
--- is each file at most 65536 bytes long?
+-- whether each file is at most 65536 bytes long
 abbrev pub FILE-LENGTH : ℕ
 FILE-LENGTH = 30
 
