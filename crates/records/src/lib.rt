@@ -1,4 +1,5 @@
-// Records of a file: little-endian numbers at an offset, and the record at an offset. Every function takes any slice and
+// Records of a file: little-endian numbers at an offset, the record at an offset, and the plan's reader. Every function takes any slice and
 // any offset.
 pub mod numbers;
+pub mod reader;
 pub mod record;
