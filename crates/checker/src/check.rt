@@ -15,8 +15,8 @@ use crate::questions::PLAN_RECORD;
 use crate::questions::TOP;
 use bytes::copy;
 use records::numbers::byte_at;
+use records::reader::plan_record;
 use records::record::Found;
-use records::record::record_at;
 use step::perform::perform;
 use step::position::Frame;
 use step::position::Position;
@@ -276,7 +276,7 @@ fn follow_record(
         (now (plan .entry))
         (state at position (now (program .entry))) ⌝ }
 {
-    let found = record_at(plan, at);
+    let found = plan_record(plan, at);
     let Found::Record {
         kind,
         body,

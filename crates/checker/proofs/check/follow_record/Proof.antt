@@ -7,8 +7,8 @@ use borrow.Author.Needs.{needs}
 use Rattle.checker.proofs.check.follow_record.Statement.{statement}
 use Rattle.checker.proofs.check.follow_record.Tie as tie
 
-record-at-requires : tie.Need-record-at-requires
-record-at-requires c κs = search needs
+plan-record-requires : tie.Need-plan-record-requires
+plan-record-requires c κs = search needs
 
 enum-known-found : tie.Need-enum-known-found
 enum-known-found c = search needs
@@ -22,8 +22,8 @@ stopped-requires c κs = search needs
 returns : tie.Need-returns
 returns c =
     let at-enum-told = c .before in
-    let at-record-at = at-enum-told .before .before in
-    rw (c .stopped .ensures) (record-missing _ _ _ _ _ _ _ _ (at-record-at .record-at .ensures) (at-enum-told .enum-told .given .1))
+    let at-plan-record = at-enum-told .before .before in
+    rw (c .stopped .ensures) (record-missing _ _ _ _ _ _ _ _ (at-plan-record .plan-record .ensures) (at-enum-told .enum-told .given .1))
 
 is-kind-requires : tie.Need-is-kind-requires
 is-kind-requires c κs = search needs
@@ -36,9 +36,9 @@ returns-2 c =
     let at-if1 = c .before in
     let at-is-kind = at-if1 .before in
     let at-found = at-is-kind .before .before in
-    let at-record-at = at-found .before .before in
+    let at-plan-record = at-found .before .before in
     rw (c .stopped2 .ensures)
-    (another-kind _ _ _ _ _ _ _ _ (at-record-at .record-at .ensures) _ _ _ _ (at-found .found .given .1) _ (at-is-kind .is-kind .ensures)
+    (another-kind _ _ _ _ _ _ _ _ (at-plan-record .plan-record .ensures) _ _ _ _ (at-found .found .given .1) _ (at-is-kind .is-kind .ensures)
     (not-true _ (at-if1 .if1 .taken)))
 
 length-fits-requires : tie.Need-length-fits-requires
@@ -54,9 +54,9 @@ returns-3 c =
     let at-if1 = at-length-fits .before in
     let at-is-kind = at-if1 .before in
     let at-found = at-is-kind .before .before in
-    let at-record-at = at-found .before .before in
+    let at-plan-record = at-found .before .before in
     rw (c .stopped3 .ensures)
-    (length-differs _ _ _ _ _ _ _ _ (at-record-at .record-at .ensures) _ _ _ _ (at-found .found .given .1) _ (at-is-kind .is-kind .ensures)
+    (length-differs _ _ _ _ _ _ _ _ (at-plan-record .plan-record .ensures) _ _ _ _ (at-found .found .given .1) _ (at-is-kind .is-kind .ensures)
     (not-false _ (at-if1 .if1 .left)) _
     (at-length-fits .length-fits .ensures) (not-true _ (at-if2 .if2 .taken)))
 
@@ -71,8 +71,8 @@ returns-4 c =
     let at-if1 = at-length-fits .before in
     let at-is-kind = at-if1 .before in
     let at-found = at-is-kind .before .before in
-    let at-record-at = at-found .before .before in
-    closing-record _ _ _ _ _ _ _ _ (at-record-at .record-at .ensures) _ _ _ _ (at-found .found .given .1) _ (at-is-kind .is-kind .ensures)
+    let at-plan-record = at-found .before .before in
+    closing-record _ _ _ _ _ _ _ _ (at-plan-record .plan-record .ensures) _ _ _ _ (at-found .found .given .1) _ (at-is-kind .is-kind .ensures)
     (not-false _ (at-if1 .if1 .left)) _
     (at-length-fits .length-fits .ensures) (not-false _ (at-if2 .if2 .left)) _ (at-if3 .if3 .taken) (c .close .ensures _)
 
@@ -82,10 +82,10 @@ follow-step-requires c κs =
     let at-if2 = at-if3 .before in
     let at-length-fits = at-if2 .before in
     let at-found = at-length-fits .before .before .before .before in
-    let at-record-at = at-found .before .before in
-    let at-start = at-record-at .before .before .before .before in
+    let at-plan-record = at-found .before .before in
+    let at-start = at-plan-record .before .before .before .before in
     let fits = sym (at-length-fits .length-fits .ensures) ∙ not-false _ (at-if2 .if2 .left) in
-    (at-start .pre .0, at-start .pre .1, step-there _ _ _ (at-record-at .record-at .ensures) _ _ _ _ (at-found .found .given .1) fits (at-if3 .if3 .left))
+    (at-start .pre .0, at-start .pre .1, step-there _ _ _ (at-plan-record .plan-record .ensures) _ _ _ _ (at-found .found .given .1) fits (at-if3 .if3 .left))
 
 same-length : tie.Need-same-length
 same-length c = search needs
@@ -99,8 +99,8 @@ returns-5 c =
     let at-if1 = at-length-fits .before in
     let at-is-kind = at-if1 .before in
     let at-found = at-is-kind .before .before in
-    let at-record-at = at-found .before .before in
-    step-record _ _ _ _ _ _ _ _ (at-record-at .record-at .ensures) _ _ _ _ (at-found .found .given .1) _ (at-is-kind .is-kind .ensures)
+    let at-plan-record = at-found .before .before in
+    step-record _ _ _ _ _ _ _ _ (at-plan-record .plan-record .ensures) _ _ _ _ (at-found .found .given .1) _ (at-is-kind .is-kind .ensures)
     (not-false _ (at-if1 .if1 .left)) _
     (at-length-fits .length-fits .ensures) (not-false _ (at-if2 .if2 .left)) _ (at-if3 .if3 .left) (at-follow-step .follow-step .ensures)
 
@@ -108,7 +108,7 @@ pub follow-record-spec : {M : Type 1} → statement M
 follow-record-spec =
     tie.close
     (tie.spec
-    record-at-requires
+    plan-record-requires
     enum-known-found
     enum-told
     stopped-requires
