@@ -1,4 +1,4 @@
-// The single step of a caller's run, by value.
+// The single step of a caller's run: by value, and of the run record that the caller lends.
 use crate::perform::Stepped;
 use crate::perform::run_step;
 use crate::position::Position;
@@ -60,4 +60,28 @@ pub fn single_step(task: &[u8], program: &[u8], position: Position) -> Stepped
         };
     };
     step_once(task, index, &read.offsets, program, position)
+}
+
+// Advances the caller's own run record by one instruction: the answer. The record then has the next position; after a refusal, and when the run is
+// finished, it is as it was.
+pub fn step_in_place(task: &[u8], program: &[u8], run: &mut Position) -> Verdict
+    ensures { λ r. ⌜
+        record { verdict = r; position = now (run .exit) }
+        ≡ singleStep (now (task .entry)) (now (program .entry)) (now (run .entry)) ⌝ }
+{
+    let stepped = single_step(task, program, *run);
+    *run = stepped.position;
+    stepped.verdict
+}
+
+// The same of a copy of the record: a caller with plain parameters drives `step_in_place` through it.
+pub fn step_copy(task: &[u8], program: &[u8], run: Position) -> Stepped
+    ensures { λ r. ⌜ r ≡ singleStep (now (task .entry)) (now (program .entry)) run ⌝ }
+{
+    let mut copy = run;
+    let verdict = step_in_place(task, program, &mut copy);
+    Stepped {
+        verdict,
+        position: copy,
+    }
 }

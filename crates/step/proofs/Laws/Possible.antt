@@ -60,3 +60,8 @@ module _ (i : Index) (s : Position) where
   pub case-open : depthFits i s ≡ true → (s .case ≡ i .cases → ⊥) → 0 < s .depth
   unfolding depthFits
   case-open h n = between-true 1 (s .depth) (i .bounds .stack) (rw (ne-eqb (s .case) (i .cases) n) at h) .0
+
+  -- with all cases finished there is none
+  pub case-finished : depthFits i s ≡ true → s .case ≡ i .cases → s .depth ≡ 0
+  unfolding depthFits
+  case-finished h e = eqb-true (s .depth) 0 (rw (eq-eqb (s .case) (i .cases) e) at h)
