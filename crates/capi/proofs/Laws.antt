@@ -1,5 +1,7 @@
 -- Laws of the definitions of the crates below that only this interface needs.
 pub mod Place
 pub mod Plan
+pub mod Program
 pub mod Result
+pub mod Step
 pub mod Write

@@ -1,12 +1,15 @@
 // The entries for C and Rust. Each returns its answer as one number: number * 2^32 + value.
 use checker::check::check_plan;
 use checker::write::write_plan;
+use step::position::Position;
+use step::single::step_in_place;
 use task::reading::read_task;
 use task::verdict::Verdict;
 ghost use mathlib.Core.Path.{_≡_};
 ghost use Prim.Native.Nat.{_^_, _<_};
 ghost use Rattle.task.specs.Reading.{readTask};
 ghost use Rattle.task.specs.Verdict.{valueOf};
+ghost use Rattle.step.specs.Single.{singleStep};
 ghost use Rattle.checker.specs.Check.{check};
 ghost use Rattle.checker.specs.Write.{write};
 ghost use Rattle.capi.specs.Packed.{packed};
@@ -51,5 +54,16 @@ pub extern "C" fn pp_write_plan(task: &[u8], program: &[u8], plan: &mut [u8]) ->
         × (now (plan .exit) ≡ write (now (task .entry)) (now (program .entry)) (now (plan .entry)) .buffer) ⌝ }
 {
     let verdict = write_plan(task, program, plan);
+    packed(verdict)
+}
+
+// One instruction of a caller's run: questions 1 to 9, 25 to 27 and 31, and then 14, 28 and 19 to 22. The run record then has the next
+// position; after a refusal, and when the run is finished, it is as it was.
+#[no_mangle]
+pub extern "C" fn pp_step(task: &[u8], program: &[u8], run: &mut Position) -> u64
+    ensures { λ r. ⌜ (r ≡ packed (singleStep (now (task .entry)) (now (program .entry)) (now (run .entry)) .verdict))
+        × (now (run .exit) ≡ singleStep (now (task .entry)) (now (program .entry)) (now (run .entry)) .position) ⌝ }
+{
+    let verdict = step_in_place(task, program, run);
     packed(verdict)
 }
