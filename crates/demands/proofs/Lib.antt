@@ -1,4 +1,5 @@
 pub mod Demand2
 pub mod Demand3
 pub mod Laws
+pub mod SingleSteps
 pub mod Starred

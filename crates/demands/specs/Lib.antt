@@ -1,4 +1,5 @@
 pub mod Compiled
 pub mod Demand2
 pub mod Demand3
+pub mod SingleSteps
 pub mod Starred

@@ -60,8 +60,10 @@ unfolding passing
 passing-accepted (Accepted v) rest k plan e = ((v, refl), e)
 passing-accepted (Refused question place) rest k plan e = absurd (let z : _≡_ {A = ℕ} 0 1 = cc in omega arith)
 
--- an answer that accepts comes from a program that passes, and a run that is accepted
+-- an answer that accepts comes from a task and a program that pass, and a run that is accepted
 pub record Accepting (bytes program : List ℕ) (k : ℕ) : Type 0 where
+  pub task : ℕ
+  pub task-passes : readTask bytes .verdict ≡ Accepted task
   pub value : ℕ
   pub passes : programVerdict (readTask bytes .task .index) (readTask bytes .task .presets) program ≡ Accepted value
   pub plan : List ℕ
@@ -82,6 +84,8 @@ module _ (bytes program buffer : List ℕ) (k : ℕ) where
       let task = passing-accepted (readTask bytes .verdict) _ n plan e in
       let own = passing-accepted (programVerdict (readTask bytes .task .index) (readTask bytes .task .presets) program) _ n plan (task .1) in
       record {
+        task = task .0 .0;
+        task-passes = task .0 .1;
         value = own .0 .0;
         passes = own .0 .1;
         plan = plan;
