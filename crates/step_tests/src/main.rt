@@ -1,8 +1,11 @@
-// Runs stored positions through the single step and writes what it answers.
+// Runs stored positions through the single step of a run record and writes what it answers.
 //
-// The input is a run of records. Kind 0: text, written as it is. Any other kind k: a position (44 bytes: facts 8, steps 2, case 1,
-// depth 1, sixteen frames of procedure and line), a program's length (2 bytes), the program and a task; k single steps are made, each
-// from the position that the one before left, and after each its number, its value and the whole position are written.
+// The input is a run of records. Kind 0: text, written as it is. Kind 65535: a program's length (2 bytes), the program and a task; the writer
+// answers, and if it accepts, as many single steps as its plan has are made from the first case's start, each behind the plan's own step, and one
+// call more. Any other kind k: a position (44 bytes: facts 8, steps 2, case 1, depth 1, sixteen frames of procedure and line), and then a
+// program and a task as above; k single steps are made, each from the position that the one before left. After each step its number, its value
+// and the whole position are written.
+use checker::write::write_plan;
 use libc::STDIN_FILENO;
 use libc::STDOUT_FILENO;
 use records::numbers::byte_at;
@@ -10,10 +13,19 @@ use records::numbers::u16_at;
 use records::numbers::u64_at;
 use step::position::Frame;
 use step::position::Position;
-use step::single::single_step;
+use step::single::step_copy;
+use task::index::case_at;
 use task::instruction::Line;
 use task::instruction::Proc;
+use task::instruction::triple_at;
+use task::reading::read_task;
 use task::verdict::Verdict;
+ghost use Prim.Native.Nat.{_≤_};
+
+// The most steps of a run beside its plan, and the bytes of such a plan: 9 for each step, and the closing record.
+const STEPS: usize = 100;
+
+const PLAN: usize = 904;
 
 fn write(text: &[u8]) {
     io::write_all(STDOUT_FILENO, text);
@@ -83,7 +95,7 @@ fn position_of(bytes: &[u8]) -> Position {
 
 // Makes one step, writes its answer, and gives the position after it.
 fn write_step(task: &[u8], program: &[u8], position: Position) -> Position {
-    let stepped = single_step(task, program, position);
+    let stepped = step_copy(task, program, position);
     let verdict = stepped.verdict;
     let next = stepped.position;
     write_verdict(verdict);
@@ -107,13 +119,74 @@ fn write_request(count: u16, bytes: &[u8]) {
     write_steps(count, &bytes[end..], &bytes[46..end], position_of(bytes));
 }
 
+// Writes the step that a plan has at an offset: its line and its instruction's three bytes.
+fn write_planned(plan: &[u8], at: usize)
+    requires { ⌜ at ≤ 900 ⌝ }
+{
+    let w = triple_at(plan, at + 6);
+    write_number(b"", byte_at(plan, at + 4) as u64);
+    write_number(b",", byte_at(plan, at + 5) as u64);
+    write_number(b" ", w.op as u64);
+    write_number(b" ", w.p as u64);
+    write_number(b" ", w.q as u64);
+    write(b": ");
+}
+
+// Makes as many single steps as a plan has, each beside the plan's own, and gives the position after them.
+fn write_run(task: &[u8], program: &[u8], plan: &[u8], steps: usize, first: Position) -> Position
+    requires { ⌜ steps ≤ 100 ⌝ }
+{
+    let mut position = first;
+    for k in 0..steps {
+        write_planned(plan, 9 * k);
+        position = write_step(task, program, position);
+    }
+    position
+}
+
+// The run of a program beside the plan that the writer gives, to the finish and one call beyond.
+fn write_beside(task: &[u8], program: &[u8]) {
+    let mut plan = [0u8; PLAN];
+    let verdict = write_plan(task, program, &mut plan);
+    write(b"writer ");
+    write_verdict(verdict);
+    write(b"\n");
+    let Verdict::Accepted { value: steps } = verdict else {
+        return;
+    };
+    if STEPS < steps {
+        return;
+    }
+    let reading = read_task(task);
+    let read = reading.task;
+    let index = read.index;
+    let start = case_at(task, index.first, 0);
+    let first = Position::starting(0, start.start);
+    let last = write_run(task, program, &plan, steps, first);
+    if last.case == index.cases {
+        write(b"finished: ");
+    } else {
+        write(b"not finished: ");
+    }
+    write_step(task, program, last);
+}
+
+fn write_run_request(bytes: &[u8]) {
+    let size = u16_at(bytes, 0) as usize;
+    if bytes.len() < 2 + size {
+        return;
+    }
+    let end = 2 + size;
+    write_beside(&bytes[end..], &bytes[2..end]);
+}
+
 // Reads a record's body and answers it.
 fn answer_body(kind: u16, body: &mut [u8]) {
     io::read_full(STDIN_FILENO, body);
-    if kind == 0 {
-        write(body);
-    } else {
-        write_request(kind, body);
+    match kind {
+        0 => write(body),
+        65535 => write_run_request(body),
+        _ => write_request(kind, body),
     }
 }
 
