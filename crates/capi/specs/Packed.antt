@@ -1,5 +1,5 @@
--- An answer as one number of 64 bits: its number in the upper half, its value in the lower. Laws `place-small`, `plan-small` and
--- `write-small` have the values of a task's, a plan's and a program's answer below 2 ^ 32.
+-- An answer as one number of 64 bits: its number in the upper half, its value in the lower. Laws `place-small`, `plan-small`,
+-- `write-small` and `step-small` have the values of a task's, a plan's, a program's and a single step's answer below 2 ^ 32.
 use Prim.Native.Nat.{ℕ, _+_, _*_, _^_}
 use Rattle.task.specs.Verdict.{numberOf, valueOf}
 use Rattle.task.specs.declared.verdict.Verdict.{Verdict}

@@ -1,4 +1,4 @@
-// A plan's steps.
+// A plan's steps, and the bytes of their records.
 use step::position::Frame;
 use task::instruction::Instruction;
 use task::instruction::encode;
