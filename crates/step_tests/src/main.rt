@@ -160,9 +160,9 @@ fn write_beside(task: &[u8], program: &[u8]) {
     let reading = read_task(task);
     let read = reading.task;
     let index = read.index;
-    let start = case_at(task, index.first, 0);
-    let first = Position::starting(0, start.start);
-    let last = write_run(task, program, &plan, steps, first);
+    let first = case_at(task, index.first, 0);
+    let fresh = Position::starting(0, first.start);
+    let last = write_run(task, program, &plan, steps, fresh);
     if last.case == index.cases {
         write(b"finished: ");
     } else {
