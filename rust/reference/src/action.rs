@@ -1,0 +1,67 @@
+//! Actions: a precondition and conditional effects, borrowed from the task file.
+//! Questions 19 and 20.
+
+use crate::answer::{ask, Question};
+use crate::facts::{Facts, Literals, PAIR_BYTES};
+
+const EFFECT_BYTES: usize = 2 * PAIR_BYTES;
+const MAX_EFFECTS: usize = 8;
+
+struct Effect {
+    condition: Literals,
+    change: Literals,
+}
+
+impl Effect {
+    fn read(bytes: &[u8; EFFECT_BYTES]) -> Self {
+        let both = bytes.as_chunks().0;
+        Effect {
+            condition: Literals::read(&both[0]),
+            change: Literals::read(&both[1]),
+        }
+    }
+}
+
+#[derive(Clone, Copy, Default)]
+pub(crate) struct Action<'a> {
+    precondition: Literals,
+    effects: &'a [[u8; EFFECT_BYTES]],
+}
+
+impl<'a> Action<'a> {
+    /// `None` if the body is not a pair and 0 to 8 effects.
+    pub fn read(body: &'a [u8]) -> Option<Self> {
+        let (precondition, effects) = body.split_first_chunk()?;
+        let (effects, surplus) = effects.as_chunks();
+        (effects.len() <= MAX_EFFECTS && surplus.is_empty()).then_some(Action {
+            precondition: Literals::read(precondition),
+            effects,
+        })
+    }
+
+    pub fn well_formed(&self, known: Facts) -> bool {
+        self.precondition.well_formed(known)
+            && self.effects().all(|effect| {
+                effect.condition.well_formed(known) && effect.change.well_formed(known)
+            })
+    }
+
+    /// The facts after the action: every condition is judged in the facts before it.
+    pub fn apply(&self, facts: Facts) -> Result<Facts, Question> {
+        ask(19, self.precondition.hold_in(facts))?;
+        let mut raised = 0;
+        let mut lowered = 0;
+        for effect in self.effects() {
+            if effect.condition.hold_in(facts) {
+                raised |= effect.change.positive;
+                lowered |= effect.change.negative;
+            }
+        }
+        ask(20, raised & lowered == 0)?;
+        Ok((facts | raised) & !lowered)
+    }
+
+    fn effects(&self) -> impl Iterator<Item = Effect> + 'a {
+        self.effects.iter().map(Effect::read)
+    }
+}
