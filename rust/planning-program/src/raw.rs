@@ -1,0 +1,135 @@
+//! The library's entries as they are. The `pp_` functions are the C interface: pointers and lengths in, `number * 2^32 + value` out. Beside
+//! each stands a safe function over slices, for callers that want to ask an entry about any bytes at all.
+
+use std::mem::{offset_of, size_of};
+
+/// A run record, laid out as the library has it.
+#[repr(C)]
+#[derive(Clone, Copy, Debug, PartialEq, Eq)]
+pub struct Run {
+    /// The facts that are true.
+    pub facts: u64,
+    /// The steps made.
+    pub steps: u16,
+    /// The case at hand, or the number of cases when the run is finished.
+    pub case: u8,
+    /// The number of frames.
+    pub depth: u8,
+    /// Procedure and line of each frame, the lowest first; `[0, 0]` beyond `depth`.
+    pub frames: [[u8; 2]; 16],
+}
+
+// The layout that docs/FORMATS.md fixes.
+const _: () = assert!(
+    size_of::<Run>() == 48
+        && offset_of!(Run, facts) == 0
+        && offset_of!(Run, steps) == 8
+        && offset_of!(Run, case) == 10
+        && offset_of!(Run, depth) == 11
+        && offset_of!(Run, frames) == 12
+);
+
+/// An answer: 0 and a value, or the number of the first question whose answer is no and its place.
+#[derive(Clone, Copy, Debug, PartialEq, Eq)]
+pub struct Answer {
+    /// 0, or the question.
+    pub number: u32,
+    /// The value, or the place.
+    pub value: u32,
+}
+
+impl Answer {
+    /// The two numbers of a packed answer.
+    pub const fn unpacked(packed: u64) -> Answer {
+        Answer {
+            number: (packed >> 32) as u32,
+            value: packed as u32,
+        }
+    }
+}
+
+/// Questions 1 to 9 of a task.
+pub fn check_task(task: &[u8]) -> Answer {
+    // SAFETY: the pointer and the length are those of a live slice, which the entry only reads.
+    Answer::unpacked(unsafe { pp_check_task(task.as_ptr(), task.len()) })
+}
+
+/// The checker. On acceptance the value is the number of steps, and `program` starts with the program's bytes.
+pub fn check_plan(task: &[u8], plan: &[u8], program: &mut [u8]) -> Answer {
+    over_slices(pp_check_plan, task, plan, program)
+}
+
+/// The writer. On acceptance the value is the number of steps, and `plan` starts with the plan's bytes.
+pub fn write_plan(task: &[u8], program: &[u8], plan: &mut [u8]) -> Answer {
+    over_slices(pp_write_plan, task, program, plan)
+}
+
+/// The single step. The value is 1 after a step, and 0 where the run is finished already.
+pub fn step(task: &[u8], program: &[u8], run: &mut Run) -> Answer {
+    // SAFETY: the pointers and the lengths are those of live slices, which the entry only reads; the record is borrowed for the entry alone,
+    // so it is aligned, has all its bytes and overlaps neither slice.
+    Answer::unpacked(unsafe {
+        pp_step(
+            task.as_ptr(),
+            task.len(),
+            program.as_ptr(),
+            program.len(),
+            run,
+        )
+    })
+}
+
+/// What the checker and the writer have in common: two slices that are read and a buffer that is filled.
+type Entry = unsafe extern "C" fn(*const u8, usize, *const u8, usize, *mut u8, usize) -> u64;
+
+fn over_slices(entry: Entry, task: &[u8], other: &[u8], buffer: &mut [u8]) -> Answer {
+    // SAFETY: the pointers and the lengths are those of live slices. The entry reads the first two and writes within the third alone, which
+    // is borrowed for it alone and so overlaps neither.
+    Answer::unpacked(unsafe {
+        entry(
+            task.as_ptr(),
+            task.len(),
+            other.as_ptr(),
+            other.len(),
+            buffer.as_mut_ptr(),
+            buffer.len(),
+        )
+    })
+}
+
+extern "C" {
+    /// See [`check_task`]. The caller owes `task_len` bytes at `task`; any pointer serves a length of 0.
+    pub fn pp_check_task(task: *const u8, task_len: usize) -> u64;
+
+    /// See [`check_plan`]. The caller owes valid memory of the given lengths, `program` apart from the two others; any pointer serves a
+    /// length of 0.
+    pub fn pp_check_plan(
+        task: *const u8,
+        task_len: usize,
+        plan: *const u8,
+        plan_len: usize,
+        program: *mut u8,
+        program_len: usize,
+    ) -> u64;
+
+    /// See [`write_plan`]. The caller owes valid memory of the given lengths, `plan` apart from the two others; any pointer serves a length
+    /// of 0.
+    pub fn pp_write_plan(
+        task: *const u8,
+        task_len: usize,
+        program: *const u8,
+        program_len: usize,
+        plan: *mut u8,
+        plan_len: usize,
+    ) -> u64;
+
+    /// See [`step`]. The caller owes valid memory of the given lengths and an aligned record apart from both; any pointer serves a length
+    /// of 0, but not as `run`.
+    pub fn pp_step(
+        task: *const u8,
+        task_len: usize,
+        program: *const u8,
+        program_len: usize,
+        run: *mut Run,
+    ) -> u64;
+}

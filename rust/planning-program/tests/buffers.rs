@@ -1,0 +1,260 @@
+//! What the library touches of the memory that it is lent: nothing outside the given lengths, nothing at all when it refuses, and the first
+//! bytes of the buffer alone when it accepts.
+
+mod requests;
+
+use planning_program::raw::{self, Answer};
+use planning_program::{plan_len, Run, Task};
+use requests::{of_kind, shown_with_buffer, shown_with_run};
+use std::ptr::{null, null_mut};
+
+/// An entry that reads two slices and fills a buffer.
+type Filling = fn(&[u8], &[u8], &mut [u8]) -> Answer;
+
+const TASK: &[u8] = include_bytes!("../../../samples/double-click/task.bin");
+const PLAN: &[u8] = include_bytes!("../../../samples/double-click/plan.bin");
+const PROGRAM: &[u8] = &[2, 2, 0, 1, 0, 0, 4, 0, 0];
+
+/// Where the records of that task and of that plan start, after docs/FORMATS.md.
+const TASK_RECORDS: [usize; 5] = [0, 10, 62, 90, 118];
+const PLAN_RECORDS: [usize; 6] = [0, 9, 18, 27, 36, 45];
+
+fn accepted(steps: u32) -> Answer {
+    refused(0, steps)
+}
+
+fn refused(number: u32, value: u32) -> Answer {
+    Answer { number, value }
+}
+
+/// The values that guard bytes take in turn: an answer that hangs on a byte outside differs under some of them.
+const GUARDS: [u8; 3] = [0x00, 0xff, 0xa5];
+
+/// An odd number, so that what stands behind it is not aligned.
+const MARGIN: usize = 61;
+
+/// Bytes with guard bytes on both sides.
+#[derive(PartialEq, Debug)]
+struct Guarded(Vec<u8>);
+
+impl Guarded {
+    fn new(bytes: &[u8], guard: u8) -> Guarded {
+        let margin = [guard; MARGIN];
+        Guarded([&margin, bytes, &margin].concat())
+    }
+
+    fn bytes(&self) -> &[u8] {
+        &self.0[MARGIN..self.0.len() - MARGIN]
+    }
+
+    fn bytes_mut(&mut self) -> &mut [u8] {
+        let end = self.0.len() - MARGIN;
+        &mut self.0[MARGIN..end]
+    }
+}
+
+/// A run record with guard bytes on both sides.
+#[repr(C)]
+#[derive(PartialEq, Debug)]
+struct GuardedRun {
+    before: [u8; 64],
+    run: raw::Run,
+    after: [u8; 64],
+}
+
+impl GuardedRun {
+    fn new(run: raw::Run, guard: u8) -> GuardedRun {
+        let (before, after) = ([guard; 64], [guard; 64]);
+        GuardedRun { before, run, after }
+    }
+}
+
+/// Every one of these with each of the guards.
+fn guarded<T: Copy>(each: impl IntoIterator<Item = T>) -> impl Iterator<Item = (T, u8)> {
+    each.into_iter()
+        .flat_map(|one| GUARDS.map(|guard| (one, guard)))
+}
+
+#[test]
+fn tasks_between_guards() {
+    for (v, guard) in guarded(&of_kind("task")) {
+        let task = Guarded::new(&v.task(), guard);
+        assert_eq!(raw::check_task(task.bytes()), v.answer());
+        assert_eq!(task, Guarded::new(&v.task(), guard), "line {}", v.line);
+    }
+}
+
+/// Asks an entry all its requests between guards. `filled` says how many bytes an acceptance with so many steps fills.
+fn fill_between_guards(kind: &str, entry: Filling, filled: fn(&Task, usize) -> usize) {
+    for (v, guard) in guarded(&of_kind(kind)) {
+        let [task, other] = [v.task(), v.other()].map(|bytes| Guarded::new(&bytes, guard));
+        let mut buffer = Guarded::new(&v.buffer(), guard);
+        let answer = entry(task.bytes(), other.bytes(), buffer.bytes_mut());
+        assert_eq!(shown_with_buffer(answer, buffer.bytes()), v.expected);
+        let filled = match Task::check(task.bytes()) {
+            Ok(task) if answer.number == 0 => filled(&task, answer.value as usize),
+            _ => 0,
+        };
+        let mut expected = v.buffer();
+        expected[..filled].copy_from_slice(&buffer.bytes()[..filled]);
+        assert_eq!(buffer, Guarded::new(&expected, guard), "line {}", v.line);
+        assert_eq!(task, Guarded::new(&v.task(), guard), "line {}", v.line);
+        assert_eq!(other, Guarded::new(&v.other(), guard), "line {}", v.line);
+    }
+}
+
+#[test]
+fn checks_between_guards() {
+    fill_between_guards("check", raw::check_plan, |task, _| task.program_len());
+}
+
+#[test]
+fn writes_between_guards() {
+    fill_between_guards("write", raw::write_plan, |_, steps| plan_len(steps));
+}
+
+#[test]
+fn steps_between_guards() {
+    for (v, guard) in guarded(&of_kind("step")) {
+        let [task, program] = [v.task(), v.other()].map(|bytes| Guarded::new(&bytes, guard));
+        let mut lent = GuardedRun::new(v.run(), guard);
+        let answer = raw::step(task.bytes(), program.bytes(), &mut lent.run);
+        assert_eq!(shown_with_run(answer, &lent.run), v.expected);
+        let stepped = answer == accepted(1);
+        let expected = if stepped { lent.run } else { v.run() };
+        assert_eq!(lent, GuardedRun::new(expected, guard), "line {}", v.line);
+        assert_eq!(task, Guarded::new(&v.task(), guard), "line {}", v.line);
+        assert_eq!(program, Guarded::new(&v.other(), guard), "line {}", v.line);
+    }
+}
+
+/// Lends a buffer of each length up to twice the bytes that are due. One that is too short gets the refusal and keeps its bytes.
+fn lend_each_length(entry: Filling, other: &[u8], due: &[u8], too_short: Answer) {
+    for (len, guard) in guarded(0..=2 * due.len()) {
+        let mut expected = vec![!guard; len];
+        let mut buffer = Guarded::new(&expected, guard);
+        let answer = entry(TASK, other, buffer.bytes_mut());
+        if let Some(start) = expected.get_mut(..due.len()) {
+            start.copy_from_slice(due);
+            assert_eq!(answer, accepted(5), "{len} bytes");
+        } else {
+            assert_eq!(answer, too_short, "{len} bytes");
+        }
+        assert_eq!(buffer, Guarded::new(&expected, guard), "{len} bytes");
+    }
+}
+
+#[test]
+fn program_buffers_of_each_length() {
+    lend_each_length(raw::check_plan, PLAN, PROGRAM, refused(10, 0));
+}
+
+#[test]
+fn plan_buffers_of_each_length() {
+    lend_each_length(raw::write_plan, PROGRAM, PLAN, refused(29, 49));
+}
+
+/// The entry gives this refusal and leaves its buffer as it was.
+fn filling_refused(entry: Filling, task: &[u8], other: &[u8], answer: Answer) {
+    let mut buffer = [0xee; 64];
+    assert_eq!(entry(task, other, &mut buffer), answer);
+    assert_eq!(buffer, [0xee; 64]);
+}
+
+/// The single step gives this refusal and leaves the record as it was.
+fn step_refused(task: &[u8], program: &[u8], answer: Answer) {
+    let fresh = fresh();
+    let mut run = fresh;
+    assert_eq!(raw::step(task, program, &mut run), answer);
+    assert_eq!(run, fresh);
+}
+
+/// A fresh record for the task.
+fn fresh() -> raw::Run {
+    let task = Task::check(TASK).expect("a task that passes");
+    *Run::start(&task).record()
+}
+
+/// Every entry refuses this task.
+fn task_refused(task: &[u8], answer: Answer) {
+    assert_eq!(raw::check_task(task), answer);
+    filling_refused(raw::check_plan, task, PLAN, answer);
+    filling_refused(raw::write_plan, task, PROGRAM, answer);
+    step_refused(task, PROGRAM, answer);
+}
+
+/// Where a file with these records is cut off when it has so many bytes.
+fn cut_at(records: &[usize], len: usize) -> u32 {
+    let last = records.iter().rfind(|&&start| start <= len);
+    *last.expect("the first record starts at 0") as u32
+}
+
+/// What was cut off still follows in memory, so a read beyond the length would find it.
+#[test]
+fn each_cut_of_the_task() {
+    for len in 0..TASK.len() {
+        task_refused(&TASK[..len], refused(1, cut_at(&TASK_RECORDS, len)));
+    }
+}
+
+#[test]
+fn each_cut_of_the_plan() {
+    for len in 0..PLAN.len() {
+        let answer = refused(11, cut_at(&PLAN_RECORDS, len));
+        filling_refused(raw::check_plan, TASK, &PLAN[..len], answer);
+    }
+}
+
+#[test]
+fn files_with_bytes_behind_their_end() {
+    for (more, byte) in guarded(1..=9) {
+        let [task, plan] = [TASK, PLAN].map(|file| [file, &vec![byte; more]].concat());
+        task_refused(&task, refused(9, 122));
+        filling_refused(raw::check_plan, TASK, &plan, refused(24, 49));
+    }
+}
+
+#[test]
+fn programs_of_another_length() {
+    let twice = [PROGRAM, PROGRAM].concat();
+    for len in (0..=twice.len()).filter(|&len| len != PROGRAM.len()) {
+        filling_refused(raw::write_plan, TASK, &twice[..len], refused(25, 0));
+        step_refused(TASK, &twice[..len], refused(25, 0));
+    }
+}
+
+/// A null pointer stands for no bytes, in the place of each slice of each entry.
+#[test]
+fn null_pointers() {
+    let (task, tn) = (TASK.as_ptr(), TASK.len());
+    let (plan, pn) = (PLAN.as_ptr(), PLAN.len());
+    let (program, gn) = (PROGRAM.as_ptr(), PROGRAM.len());
+    let (mut buffer, mut run) = ([0xee; 64], fresh());
+    let room = buffer.as_mut_ptr();
+    // SAFETY: each pointer is null with a length of 0, or that of a live slice with its length; only the buffer and the record are written.
+    let packed = unsafe {
+        [
+            raw::pp_check_task(null(), 0),
+            raw::pp_check_plan(null(), 0, plan, pn, room, 64),
+            raw::pp_check_plan(task, tn, null(), 0, room, 64),
+            raw::pp_check_plan(task, tn, plan, pn, null_mut(), 0),
+            raw::pp_write_plan(null(), 0, program, gn, room, 64),
+            raw::pp_write_plan(task, tn, null(), 0, room, 64),
+            raw::pp_write_plan(task, tn, program, gn, null_mut(), 0),
+            raw::pp_step(null(), 0, program, gn, &mut run),
+            raw::pp_step(task, tn, null(), 0, &mut run),
+        ]
+    };
+    let answers = packed.map(Answer::unpacked);
+    assert_eq!(answers[0], refused(1, 0));
+    assert_eq!(
+        answers[1..4],
+        [refused(1, 0), refused(11, 0), refused(10, 0)]
+    );
+    assert_eq!(
+        answers[4..7],
+        [refused(1, 0), refused(25, 0), refused(29, 49)]
+    );
+    assert_eq!(answers[7..], [refused(1, 0), refused(25, 0)]);
+    assert_eq!((buffer, run), ([0xee; 64], fresh()));
+}

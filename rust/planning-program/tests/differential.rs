@@ -1,0 +1,64 @@
+//! The proved library beside `reference`, which was written from docs/FORMATS.md and shares no code with it.
+//!
+//! Both get the same 200,000 requests of all four kinds, made from a seed: sound ones, and damaged ones that aim at every question. The
+//! answers must have the same number and value and leave the same bytes in the lent buffer, or the same fields in the run record, after
+//! refusals and beyond what is filled too. A difference is shown with the seed, the request as a line of vectors/README.md, and both
+//! outcomes. Every number has to come up, or the test fails.
+//!
+//! With another seed or more requests, and with the table of answers:
+//!
+//!     DIFFERENTIAL_SEED=7 DIFFERENTIAL_REQUESTS=5000000 cargo test --test differential -- --nocapture
+
+mod differential {
+    pub mod caller;
+    mod changes;
+    mod comparison;
+    mod counting;
+    mod damage;
+    mod entries;
+    mod instructions;
+    mod plan_damage;
+    mod positions;
+    mod program_damage;
+    mod programs;
+    mod random;
+    mod request;
+    pub mod round;
+    mod samples;
+    mod tally;
+    mod task;
+    mod task_damage;
+    mod tasks;
+}
+
+use std::str::FromStr;
+
+use differential::caller::Caller;
+use differential::round::round;
+
+const SEED: u64 = 20_250_711;
+const LEAST_REQUESTS: usize = 200_000;
+/// How often each of 1 to 29 and 31 has to come up.
+const LEAST_REFUSALS: usize = 50;
+/// How often 0 has to come up for a task, the checker, the writer and the single step, each.
+const LEAST_ACCEPTED: usize = 10_000;
+
+#[test]
+fn library_and_reference_agree() {
+    let seed = setting("DIFFERENTIAL_SEED").unwrap_or(SEED);
+    let requests = setting("DIFFERENTIAL_REQUESTS").unwrap_or(LEAST_REQUESTS);
+    println!("seed {seed}");
+    let mut caller = Caller::new(seed);
+    while caller.tally().total() < requests {
+        round(&mut caller);
+    }
+    print!("{}", caller.tally());
+    assert!(caller.tally().total() >= LEAST_REQUESTS);
+    caller.tally().assert_least(LEAST_REFUSALS, LEAST_ACCEPTED);
+}
+
+/// A number from the environment, if it is set.
+fn setting<T: FromStr>(name: &str) -> Option<T> {
+    let value = std::env::var(name).ok()?;
+    Some(value.parse().ok().expect("a number"))
+}

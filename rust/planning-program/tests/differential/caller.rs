@@ -1,0 +1,72 @@
+//! A caller of the entries, who lends buffers of any content: too short, just long enough, or longer.
+
+use planning_program::raw::Run;
+
+use super::comparison::Comparison;
+use super::random::Random;
+use super::request::{Lent, Request};
+use super::tally::Tally;
+
+pub struct Caller {
+    pub random: Random,
+    comparison: Comparison,
+}
+
+impl Caller {
+    pub fn new(seed: u64) -> Self {
+        Caller {
+            random: Random::new(seed),
+            comparison: Comparison::new(seed),
+        }
+    }
+
+    pub fn tally(&self) -> &Tally {
+        &self.comparison.tally
+    }
+
+    pub fn check_task(&mut self, task: &[u8]) {
+        self.comparison.ask(Request::Task { task });
+    }
+
+    /// `needed` is about the length that the program has.
+    pub fn check_plan(&mut self, task: &[u8], plan: &[u8], needed: usize) {
+        let buffer = &self.buffer(needed);
+        self.comparison.ask(Request::Check { task, plan, buffer });
+    }
+
+    /// The plan that is written; `needed` is about the length that it has. A buffer that is too short is followed by one that just suffices.
+    pub fn write_plan(&mut self, task: &[u8], program: &[u8], needed: usize) -> Option<Vec<u8>> {
+        let mut buffer = self.buffer(needed);
+        loop {
+            let outcome = self.comparison.ask(Request::Write {
+                task,
+                program,
+                buffer: &buffer,
+            });
+            let value = outcome.answer.value as usize;
+            match (outcome.answer.number, outcome.lent) {
+                (0, Lent::Buffer(mut plan)) => {
+                    plan.truncate(9 * value + 4);
+                    return Some(plan);
+                }
+                (29, _) => buffer = self.random.bytes(value),
+                _ => return None,
+            }
+        }
+    }
+
+    pub fn step(&mut self, task: &[u8], program: &[u8], run: Run) {
+        self.comparison.ask(Request::Step { task, program, run });
+    }
+
+    fn buffer(&mut self, needed: usize) -> Vec<u8> {
+        let len = match self.random.below(16) {
+            0 => 0,
+            1 => needed - 1,
+            2 => needed + 1,
+            3..=5 => needed + self.random.below(40),
+            _ => needed,
+        };
+        self.random.bytes(len)
+    }
+}

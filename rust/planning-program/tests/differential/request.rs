@@ -1,0 +1,137 @@
+//! Requests, their outcomes, and both as vectors/README.md writes them.
+
+use std::fmt;
+
+use planning_program::raw::{Answer, Run};
+
+use super::entries::{Entries, FillEntry};
+
+#[derive(Clone, Copy)]
+pub enum Request<'a> {
+    Task {
+        task: &'a [u8],
+    },
+    Check {
+        task: &'a [u8],
+        plan: &'a [u8],
+        buffer: &'a [u8],
+    },
+    Write {
+        task: &'a [u8],
+        program: &'a [u8],
+        buffer: &'a [u8],
+    },
+    Step {
+        task: &'a [u8],
+        program: &'a [u8],
+        run: Run,
+    },
+}
+
+/// The names of the kinds of requests, in the order of `Request::kind`.
+pub const KINDS: [&str; 4] = ["task", "check", "write", "step"];
+
+/// An answer, and all that was lent for writing as it is afterwards.
+#[derive(PartialEq)]
+pub struct Outcome {
+    pub answer: Answer,
+    pub lent: Lent,
+}
+
+#[derive(PartialEq)]
+pub enum Lent {
+    Nothing,
+    Buffer(Vec<u8>),
+    Record(Run),
+}
+
+impl Request<'_> {
+    pub fn kind(&self) -> usize {
+        match self {
+            Request::Task { .. } => 0,
+            Request::Check { .. } => 1,
+            Request::Write { .. } => 2,
+            Request::Step { .. } => 3,
+        }
+    }
+
+    pub fn answered_by(&self, entries: &Entries) -> Outcome {
+        match *self {
+            Request::Task { task } => Outcome {
+                answer: (entries.check_task)(task),
+                lent: Lent::Nothing,
+            },
+            Request::Check { task, plan, buffer } => filled(entries.check_plan, task, plan, buffer),
+            Request::Write {
+                task,
+                program,
+                buffer,
+            } => filled(entries.write_plan, task, program, buffer),
+            Request::Step {
+                task,
+                program,
+                mut run,
+            } => Outcome {
+                answer: (entries.step)(task, program, &mut run),
+                lent: Lent::Record(run),
+            },
+        }
+    }
+}
+
+fn filled(entry: FillEntry, task: &[u8], other: &[u8], buffer: &[u8]) -> Outcome {
+    let mut buffer = buffer.to_vec();
+    let answer = entry(task, other, &mut buffer);
+    Outcome {
+        answer,
+        lent: Lent::Buffer(buffer),
+    }
+}
+
+impl fmt::Display for Request<'_> {
+    fn fmt(&self, f: &mut fmt::Formatter) -> fmt::Result {
+        let words = match *self {
+            Request::Task { task } => word(task),
+            Request::Check {
+                task,
+                plan: other,
+                buffer,
+            }
+            | Request::Write {
+                task,
+                program: other,
+                buffer,
+            } => [task, other, buffer].map(word).join(" "),
+            Request::Step { task, program, run } => {
+                [word(task), word(program), words_of(&run)].join(" ")
+            }
+        };
+        write!(f, "{} {words}", KINDS[self.kind()])
+    }
+}
+
+impl fmt::Display for Outcome {
+    fn fmt(&self, f: &mut fmt::Formatter) -> fmt::Result {
+        write!(f, "{} {}", self.answer.number, self.answer.value)?;
+        match &self.lent {
+            Lent::Nothing => Ok(()),
+            Lent::Buffer(bytes) => write!(f, " {}", word(bytes)),
+            Lent::Record(run) => write!(f, " {}", words_of(run)),
+        }
+    }
+}
+
+fn word(bytes: &[u8]) -> String {
+    if bytes.is_empty() {
+        return "-".to_string();
+    }
+    bytes.iter().map(|byte| format!("{byte:02x}")).collect()
+}
+
+fn words_of(run: &Run) -> String {
+    let mut words = format!("{} {} {} {}", run.case, run.facts, run.steps, run.depth);
+    for [procedure, line] in run.frames {
+        words += &format!(" {procedure} {line}");
+    }
+    words
+}

@@ -1,0 +1,133 @@
+//! The requests of vectors/base.txt and their agreed answers; vectors/README.md says how they are written.
+
+use planning_program::raw::{Answer, Run};
+
+/// A request and its agreed answer.
+pub struct Vector {
+    /// The request's line in the file.
+    pub line: usize,
+    /// The request, its kind first.
+    words: Vec<&'static str>,
+    /// The answer.
+    pub expected: &'static str,
+}
+
+/// The kinds of request, and how many the file has of each.
+pub const COUNTS: [(&str, usize); 5] = [
+    ("task", 108),
+    ("check", 243),
+    ("write", 198),
+    ("step", 197),
+    ("print", 232),
+];
+
+/// All requests of the file.
+pub fn all() -> Vec<Vector> {
+    let text = include_str!("../../../../vectors/base.txt");
+    let lines: Vec<&str> = text.lines().collect();
+    let vector = |(k, pair): (usize, &[&'static str])| {
+        let line = 2 * k + 1;
+        let [request, answer] = pair else {
+            panic!("line {line}: a request without an answer");
+        };
+        let Some(expected) = answer.strip_prefix("= ") else {
+            panic!("line {}: not an answer", line + 1);
+        };
+        Vector {
+            line,
+            words: request.split(' ').collect(),
+            expected,
+        }
+    };
+    lines.chunks(2).enumerate().map(vector).collect()
+}
+
+/// The requests of a kind, all of them: a file that was cut fails here.
+pub fn of_kind(kind: &str) -> Vec<Vector> {
+    let found: Vec<Vector> = all().into_iter().filter(|v| v.words[0] == kind).collect();
+    assert!(COUNTS.contains(&(kind, found.len())), "{kind} lines");
+    found
+}
+
+/// The bytes that a word spells, `-` being none.
+fn bytes(word: &str) -> Vec<u8> {
+    if word == "-" {
+        return Vec::new();
+    }
+    let byte = |i| u8::from_str_radix(&word[i..i + 2], 16).expect("hexadecimal");
+    (0..word.len()).step_by(2).map(byte).collect()
+}
+
+/// A number, which must fit its field.
+fn number<T: TryFrom<u64>>(word: &str) -> T {
+    let number: u64 = word.parse().expect("a number");
+    T::try_from(number).ok().expect("a number that fits")
+}
+
+impl Vector {
+    /// The task of the request.
+    pub fn task(&self) -> Vec<u8> {
+        bytes(self.words[1])
+    }
+
+    /// The plan of a check or print request, the program of a write or step request.
+    pub fn other(&self) -> Vec<u8> {
+        bytes(self.words[2])
+    }
+
+    /// The buffer lent by a check or write request.
+    pub fn buffer(&self) -> Vec<u8> {
+        bytes(self.words[3])
+    }
+
+    /// The record lent by a step request.
+    pub fn run(&self) -> Run {
+        let word = |k: usize| self.words[k];
+        Run {
+            case: number(word(3)),
+            facts: number(word(4)),
+            steps: number(word(5)),
+            depth: number(word(6)),
+            frames: std::array::from_fn(|k| [number(word(7 + 2 * k)), number(word(8 + 2 * k))]),
+        }
+    }
+
+    /// The two numbers of the agreed answer, which a print request has not.
+    pub fn answer(&self) -> Answer {
+        let mut words = self.expected.split(' ').map(number);
+        let mut next = || words.next().expect("a number");
+        Answer {
+            number: next(),
+            value: next(),
+        }
+    }
+}
+
+/// An answer as the file writes it.
+pub fn shown(answer: Answer) -> String {
+    format!("{} {}", answer.number, answer.value)
+}
+
+/// An answer and the buffer afterwards.
+pub fn shown_with_buffer(answer: Answer, buffer: &[u8]) -> String {
+    let digits: String = buffer.iter().map(|byte| format!("{byte:02x}")).collect();
+    let word = if digits.is_empty() { "-" } else { &digits };
+    format!("{} {word}", shown(answer))
+}
+
+/// An answer and the record afterwards.
+pub fn shown_with_run(answer: Answer, run: &Run) -> String {
+    let frames: String = run
+        .frames
+        .iter()
+        .map(|[j, i]| format!(" {j} {i}"))
+        .collect();
+    let Run {
+        case,
+        facts,
+        steps,
+        depth,
+        ..
+    } = run;
+    format!("{} {case} {facts} {steps} {depth}{frames}", shown(answer))
+}
