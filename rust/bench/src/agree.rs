@@ -1,0 +1,51 @@
+//! Before anything is measured: both sides give the answers that the input was made for.
+
+use crate::inputs::Input;
+use crate::position;
+use crate::sides::{Side, LIBRARY, REFERENCE, SIDES};
+use reference::Answer;
+
+/// Panics where a side answers otherwise.
+pub fn check(name: &str, input: &Input) {
+    for side in SIDES {
+        check_side(name, input, side);
+    }
+    check_run(name, input);
+}
+
+fn check_side(name: &str, input: &Input, side: &Side) {
+    let Input {
+        task,
+        program,
+        plan,
+        steps,
+        ..
+    } = input;
+    let accepted = |value| Answer { number: 0, value };
+    let about = format!("{name}, {}", side.name);
+    assert_eq!((side.check_task)(task), accepted(0), "{about}");
+    let mut read = vec![0xff; program.len()];
+    let answer = (side.check_plan)(task, plan, &mut read);
+    assert_eq!(answer, accepted(*steps), "{about}: checker");
+    assert!(read == *program, "{about}: the checker's program");
+    let mut written = vec![0xff; plan.len()];
+    let answer = (side.write_plan)(task, program, &mut written);
+    assert_eq!(answer, accepted(*steps), "{about}: writer");
+    assert!(written == *plan, "{about}: the writer's plan");
+}
+
+/// Both sides' single steps make the whole run alike, and finish it.
+fn check_run(name: &str, input: &Input) {
+    let (mut one, mut other) = (position::start(input), position::start(input));
+    for step in 0..=input.steps {
+        let answer = Answer {
+            number: 0,
+            value: u32::from(step < input.steps),
+        };
+        for (side, run) in [(&LIBRARY, &mut one), (&REFERENCE, &mut other)] {
+            let given = (side.step)(&input.task, &input.program, run);
+            assert_eq!(given, answer, "{name}, {}: step {step}", side.name);
+        }
+        assert!(one == other, "{name}: the record after step {step}");
+    }
+}

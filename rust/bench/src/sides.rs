@@ -1,0 +1,34 @@
+//! The two sides that are measured, behind the same functions.
+
+mod library;
+mod plain;
+
+use reference::{Answer, Run};
+
+pub struct Side {
+    pub name: &'static str,
+    pub check_task: fn(&[u8]) -> Answer,
+    pub check_plan: fn(&[u8], &[u8], &mut [u8]) -> Answer,
+    pub write_plan: fn(&[u8], &[u8], &mut [u8]) -> Answer,
+    pub step: fn(&[u8], &[u8], &mut Run) -> Answer,
+}
+
+/// The proved library.
+pub static LIBRARY: Side = Side {
+    name: "library",
+    check_task: library::check_task,
+    check_plan: library::check_plan,
+    write_plan: library::write_plan,
+    step: library::step,
+};
+
+/// The plain Rust implementation.
+pub static REFERENCE: Side = Side {
+    name: "reference",
+    check_task: plain::check_task,
+    check_plan: plain::check_plan,
+    write_plan: plain::write_plan,
+    step: plain::step,
+};
+
+pub static SIDES: [&Side; 2] = [&LIBRARY, &REFERENCE];
