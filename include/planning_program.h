@@ -93,7 +93,7 @@ static inline uint32_t pp_value(uint64_t answer) { return (uint32_t)answer; }
 
 /* What the caller owes every function: as many bytes of valid memory at each pointer as the length says, and a buffer or record, the last
  * argument, that overlaps none of the others. A pointer may be null where its length is 0. The bytes themselves may be anything. Nothing
- * is kept after the call, and nothing is allocated. */
+ * is kept after the call, and nothing is allocated; calls on several threads do not meet. */
 
 /* Asks whether the bytes are a task: questions 1 to 9. The value is 0. */
 uint64_t pp_check_task(const uint8_t *task, size_t task_len);

@@ -1,6 +1,6 @@
 /* Checks the plan in a folder, prints its program, writes the program back to a plan and runs it by single steps.
  *
- * Build it from the root of the repository, once rust/build has made the library:
+ * Build it from the root of the repository, once `rt staticlib capi` has made the library:
  *
  *     cc -std=c11 -Wall -Wextra -Werror -I include -o target/check_and_write examples/c/check_and_write.c target/staticlib/libcapi.a
  *
@@ -13,7 +13,7 @@
 #include <stdio.h>
 #include <string.h>
 
-/* A file's bytes. One that is longer is turned away, as the program check_plan does. */
+/* A file's bytes. A file with more of them is turned away, as by the program check_plan. */
 typedef struct {
     uint8_t bytes[65536];
     size_t len;
@@ -66,6 +66,7 @@ static uint64_t first_start(const uint8_t *task) {
     return number_at(task + at + 4, 8);
 }
 
+/* Prints a line's number and what its three bytes op, p and q say. */
 static void print_line(unsigned line, const uint8_t *instruction) {
     unsigned p = instruction[1], q = instruction[2];
     switch (instruction[0]) {

@@ -5,6 +5,7 @@ use crate::inputs::INPUTS;
 use crate::sides::{Side, SIDES};
 use std::env;
 use std::process::{Command, Stdio};
+use std::thread;
 
 /// Long blocks are cleared and copied by vector loops. The C library's other way is one instruction, which callgrind would count once for each byte.
 const BLOCKS: &str =
@@ -17,8 +18,7 @@ pub fn is_possible() -> bool {
     valgrind.status().is_ok_and(|status| status.success())
 }
 
-/// The instructions inside `measured` in a child that makes this call. The caller's environment would move its stack, and with that the counts
-/// of block copies: the child gets no more than it needs.
+/// The instructions inside `measured` in a child that makes this call, with no more of the caller's environment than it needs.
 pub fn instructions(input: &str, entry: Entry, side: &Side) -> u64 {
     let output = Command::new("valgrind")
         .env_clear()
@@ -42,8 +42,16 @@ fn collected(line: &str) -> Option<u64> {
     number.trim().parse().ok()
 }
 
-/// What the child does. Gives nothing when a name is unknown.
+/// What the child does, in a thread: the stack and the heap of one begin at a page, whatever the arguments and the environment are, so block
+/// copies are aligned alike in every run. Gives nothing when a name is unknown.
 pub fn count_here(input: &str, entry: &str, side: &str) -> Option<()> {
+    thread::scope(|scope| {
+        let counting = scope.spawn(|| count_in_thread(input, entry, side));
+        counting.join().expect("the thread counts")
+    })
+}
+
+fn count_in_thread(input: &str, entry: &str, side: &str) -> Option<()> {
     let (_, make) = INPUTS.iter().find(|(name, _)| *name == input)?;
     let input = make();
     let entry = input.entries.iter().find(|each| each.name() == entry)?;

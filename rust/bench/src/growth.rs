@@ -14,7 +14,7 @@ pub fn table(rows: &[Row]) -> Table {
         "entry",
         "side",
         "steps",
-        "instr.",
+        "instructions",
         "per step",
         "per step since the row above",
     ];

@@ -7,6 +7,8 @@ mod large;
 
 use crate::entry::Entry;
 use crate::sides::LIBRARY;
+use planning_program::model::{words::procedure, Instruction, Procedure, TaskBuilder};
+use planning_program::plan_len;
 
 pub struct Input {
     pub task: Vec<u8>,
@@ -18,20 +20,39 @@ pub struct Input {
     pub entries: Vec<Entry>,
 }
 
+/// The lines of one procedure.
+type Lines = Vec<Instruction<String>>;
+
 impl Input {
-    /// The input whose plan is what the proved writer gives for the program.
-    fn written(task: Vec<u8>, program: Vec<u8>, steps: u32, entries: &[Entry]) -> Input {
-        let mut plan = vec![0; 9 * steps as usize + 4];
+    /// The input of a task and a program, whose plan is what the proved writer gives.
+    fn written(task: TaskBuilder, program: Vec<Lines>, steps: u32, entries: &[Entry]) -> Input {
+        let model = task.build().expect("a task without a mistake");
+        let program = model.program(procedures(program));
+        let program = program.expect("a program without a mistake").bytes();
+        let task = model.task_bytes().to_vec();
+        let mut plan = vec![0; plan_len(steps as usize)];
         (LIBRARY.write_plan)(&task, &program, &mut plan);
-        let entries = entries.to_vec();
         Input {
             task,
             program,
             plan,
             steps,
-            entries,
+            entries: entries.to_vec(),
         }
     }
+}
+
+/// The procedures with these lines; their names are their numbers.
+fn procedures(program: Vec<Lines>) -> impl Iterator<Item = Procedure> {
+    let names = numbers(program.len()).into_iter();
+    names
+        .zip(program)
+        .map(|(name, lines)| procedure(name, lines))
+}
+
+/// So many numbers from 0 on, as names.
+fn numbers(count: usize) -> Vec<String> {
+    (0..count).map(|number| number.to_string()).collect()
 }
 
 /// An input's name, and how it is made.

@@ -4,7 +4,6 @@
 //! A row of `step` is the mean over the first 64 calls of a run, or all if there are fewer.
 
 mod agree;
-mod bytes;
 mod clock;
 mod count;
 mod entry;

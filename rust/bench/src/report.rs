@@ -1,4 +1,4 @@
-//! Measures the rows of the table and prints them.
+//! Measures the rows and prints them, a table for each measure.
 
 use crate::entry::Entry;
 use crate::inputs::{Input, INPUTS};
@@ -18,8 +18,9 @@ pub struct Measures {
 pub struct Row {
     pub input: &'static str,
     pub entry: Entry,
+    task_len: usize,
+    plan_len: usize,
     pub steps: u32,
-    sizes: [usize; 2],
     pub instructions: Option<[f64; 2]>,
     nanoseconds: Option<[f64; 2]>,
 }
@@ -31,8 +32,10 @@ pub fn print(filter: &str, mut measures: Measures) {
         measures.instructions = false;
     }
     let rows = measure_all(filter, measures);
-    table(&rows, measures).print();
-    growth::table(&rows).print();
+    inputs(&rows).print("Inputs");
+    both_sides(&rows, |row| row.instructions, whole).print("Instructions of a call");
+    both_sides(&rows, |row| row.nanoseconds, time).print("Time of a call");
+    growth::table(&rows).print("Growth of the instructions");
 }
 
 fn measure_all(filter: &str, measures: Measures) -> Vec<Row> {
@@ -58,45 +61,47 @@ fn measure(name: &'static str, entry: Entry, input: &Input, measures: Measures) 
     Row {
         input: name,
         entry,
+        task_len: input.task.len(),
+        plan_len: input.plan.len(),
         steps: input.steps,
-        sizes: [input.task.len(), input.plan.len()],
         instructions: measures.instructions.then(|| instructions().map(per_call)),
         nanoseconds: measures.times.then(|| nanoseconds().map(per_call)),
     }
 }
 
-fn table(rows: &[Row], measures: Measures) -> Table {
-    let mut head = vec!["input", "entry", "task bytes", "plan bytes", "steps"];
-    if measures.instructions {
-        head.extend(["library instr.", "reference instr.", "ratio"]);
-    }
-    if measures.times {
-        head.extend(["library time", "reference time", "ratio"]);
-    }
-    let mut table = Table::new(2, &head);
-    for row in rows {
-        table.row(cells(row));
+/// The sizes of each input that was measured.
+fn inputs(rows: &[Row]) -> Table {
+    let mut table = Table::new(1, &["input", "task bytes", "plan bytes", "steps"]);
+    for of_one_input in rows.chunk_by(|row, next| row.input == next.input) {
+        let row = &of_one_input[0];
+        table.row(vec![
+            row.input.to_string(),
+            whole(row.task_len as f64),
+            whole(row.plan_len as f64),
+            whole(f64::from(row.steps)),
+        ]);
     }
     table
 }
 
-fn cells(row: &Row) -> Vec<String> {
-    let mut cells = vec![row.input.to_string(), row.entry.name().to_string()];
-    cells.extend(row.sizes.map(|size| whole(size as f64)));
-    cells.push(whole(f64::from(row.steps)));
-    cells.extend(both(row.instructions, whole));
-    cells.extend(both(row.nanoseconds, time));
-    cells
-}
-
-/// The two sides and their ratio.
-fn both(sides: Option<[f64; 2]>, shown: fn(f64) -> String) -> Vec<String> {
-    let Some([library, reference]) = sides else {
-        return Vec::new();
-    };
-    vec![
-        shown(library),
-        shown(reference),
-        fraction(library / reference),
-    ]
+/// One measure of every row that has it: the library's, the reference's and their ratio.
+fn both_sides(
+    rows: &[Row],
+    measure: fn(&Row) -> Option<[f64; 2]>,
+    shown: fn(f64) -> String,
+) -> Table {
+    let mut table = Table::new(2, &["input", "entry", "library", "reference", "ratio"]);
+    for row in rows {
+        let Some([library, reference]) = measure(row) else {
+            continue;
+        };
+        table.row(vec![
+            row.input.to_string(),
+            row.entry.name().to_string(),
+            shown(library),
+            shown(reference),
+            fraction(library / reference),
+        ]);
+    }
+    table
 }

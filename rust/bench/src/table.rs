@@ -20,13 +20,14 @@ impl Table {
     }
 
     /// Prints nothing when there is only a head.
-    pub fn print(&self) {
+    pub fn print(&self, title: &str) {
         let [head, rows @ ..] = &self.rows[..] else {
             return;
         };
         if rows.is_empty() {
             return;
         }
+        println!("{title}\n");
         let widths = self.widths();
         self.print_row(head, &widths);
         self.print_row(&self.rule(&widths), &widths);

@@ -32,6 +32,7 @@
 pub mod model;
 #[allow(unsafe_code)]
 pub mod raw;
+mod records;
 mod refusal;
 mod run;
 mod task;

@@ -40,6 +40,7 @@ pub struct Answer {
 
 impl Answer {
     /// The two numbers of a packed answer.
+    #[inline]
     pub const fn unpacked(packed: u64) -> Answer {
         Answer {
             number: (packed >> 32) as u32,
@@ -49,22 +50,26 @@ impl Answer {
 }
 
 /// Questions 1 to 9 of a task.
+#[inline]
 pub fn check_task(task: &[u8]) -> Answer {
     // SAFETY: the pointer and the length are those of a live slice, which the entry only reads.
     Answer::unpacked(unsafe { pp_check_task(task.as_ptr(), task.len()) })
 }
 
 /// The checker. On acceptance the value is the number of steps, and `program` starts with the program's bytes.
+#[inline]
 pub fn check_plan(task: &[u8], plan: &[u8], program: &mut [u8]) -> Answer {
     over_slices(pp_check_plan, task, plan, program)
 }
 
 /// The writer. On acceptance the value is the number of steps, and `plan` starts with the plan's bytes.
+#[inline]
 pub fn write_plan(task: &[u8], program: &[u8], plan: &mut [u8]) -> Answer {
     over_slices(pp_write_plan, task, program, plan)
 }
 
 /// The single step. The value is 1 after a step, and 0 where the run is finished already.
+#[inline]
 pub fn step(task: &[u8], program: &[u8], run: &mut Run) -> Answer {
     // SAFETY: the pointers and the lengths are those of live slices, which the entry only reads; the record is borrowed for the entry alone,
     // so it is aligned, has all its bytes and overlaps neither slice.
@@ -82,6 +87,7 @@ pub fn step(task: &[u8], program: &[u8], run: &mut Run) -> Answer {
 /// What the checker and the writer have in common: two slices that are read and a buffer that is filled.
 type Entry = unsafe extern "C" fn(*const u8, usize, *const u8, usize, *mut u8, usize) -> u64;
 
+#[inline]
 fn over_slices(entry: Entry, task: &[u8], other: &[u8], buffer: &mut [u8]) -> Answer {
     // SAFETY: the pointers and the lengths are those of live slices. The entry reads the first two and writes within the third alone, which
     // is borrowed for it alone and so overlaps neither.

@@ -1,6 +1,7 @@
 //! A task that passed its questions, and what is asked of it: is this plan one, and what is the plan of this program.
 
 use crate::raw;
+use crate::records::{kind, records};
 use crate::refusal::{value, Refusal};
 
 /// The most bytes that the program of any task has: 8 procedures of 32 lines.
@@ -181,22 +182,9 @@ impl<'a> Task<'a> {
     /// The facts that are true at the start of each case.
     pub(crate) fn starts(&self) -> impl Iterator<Item = u64> + 'a {
         records(self.bytes)
-            .filter(|&(kind, _)| kind == CASE)
+            .filter(|&(kind, _)| kind == kind::CASE)
             .map(|(_, body)| u64::from_le_bytes(*body.first_chunk().expect("a case has 24 bytes")))
     }
-}
-
-/// The kind of a case's record.
-const CASE: u16 = 4;
-
-/// The records of a task that passed: the kind and the body of each.
-fn records(mut rest: &[u8]) -> impl Iterator<Item = (u16, &[u8])> {
-    std::iter::from_fn(move || {
-        let (&[low, high, kind_low, kind_high], behind) = rest.split_first_chunk()?;
-        let (body, next) = behind.split_at(u16::from_le_bytes([low, high]).into());
-        rest = next;
-        Some((u16::from_le_bytes([kind_low, kind_high]), body))
-    })
 }
 
 #[cfg(test)]

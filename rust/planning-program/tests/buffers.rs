@@ -19,12 +19,15 @@ const PROGRAM: &[u8] = &[2, 2, 0, 1, 0, 0, 4, 0, 0];
 const TASK_RECORDS: [usize; 5] = [0, 10, 62, 90, 118];
 const PLAN_RECORDS: [usize; 6] = [0, 9, 18, 27, 36, 45];
 
-fn accepted(steps: u32) -> Answer {
-    refused(0, steps)
+fn accepted(value: u32) -> Answer {
+    Answer { number: 0, value }
 }
 
-fn refused(number: u32, value: u32) -> Answer {
-    Answer { number, value }
+fn refused(number: u32, place: u32) -> Answer {
+    Answer {
+        number,
+        value: place,
+    }
 }
 
 /// The values that guard bytes take in turn: an answer that hangs on a byte outside differs under some of them.
@@ -226,23 +229,22 @@ fn programs_of_another_length() {
 /// A null pointer stands for no bytes, in the place of each slice of each entry.
 #[test]
 fn null_pointers() {
-    let (task, tn) = (TASK.as_ptr(), TASK.len());
-    let (plan, pn) = (PLAN.as_ptr(), PLAN.len());
-    let (program, gn) = (PROGRAM.as_ptr(), PROGRAM.len());
+    let [task, plan, program] = [TASK, PLAN, PROGRAM].map(<[u8]>::as_ptr);
+    let [task_len, plan_len, program_len] = [TASK, PLAN, PROGRAM].map(<[u8]>::len);
     let (mut buffer, mut run) = ([0xee; 64], fresh());
     let room = buffer.as_mut_ptr();
     // SAFETY: each pointer is null with a length of 0, or that of a live slice with its length; only the buffer and the record are written.
     let packed = unsafe {
         [
             raw::pp_check_task(null(), 0),
-            raw::pp_check_plan(null(), 0, plan, pn, room, 64),
-            raw::pp_check_plan(task, tn, null(), 0, room, 64),
-            raw::pp_check_plan(task, tn, plan, pn, null_mut(), 0),
-            raw::pp_write_plan(null(), 0, program, gn, room, 64),
-            raw::pp_write_plan(task, tn, null(), 0, room, 64),
-            raw::pp_write_plan(task, tn, program, gn, null_mut(), 0),
-            raw::pp_step(null(), 0, program, gn, &mut run),
-            raw::pp_step(task, tn, null(), 0, &mut run),
+            raw::pp_check_plan(null(), 0, plan, plan_len, room, 64),
+            raw::pp_check_plan(task, task_len, null(), 0, room, 64),
+            raw::pp_check_plan(task, task_len, plan, plan_len, null_mut(), 0),
+            raw::pp_write_plan(null(), 0, program, program_len, room, 64),
+            raw::pp_write_plan(task, task_len, null(), 0, room, 64),
+            raw::pp_write_plan(task, task_len, program, program_len, null_mut(), 0),
+            raw::pp_step(null(), 0, program, program_len, &mut run),
+            raw::pp_step(task, task_len, null(), 0, &mut run),
         ]
     };
     let answers = packed.map(Answer::unpacked);

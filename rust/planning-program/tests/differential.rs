@@ -29,6 +29,8 @@ mod differential {
     mod task;
     mod task_damage;
     mod tasks;
+    #[path = "../requests/words.rs"]
+    mod words;
 }
 
 use std::str::FromStr;

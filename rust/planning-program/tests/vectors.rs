@@ -5,7 +5,8 @@ mod requests;
 
 use planning_program::raw::{self, Answer};
 use planning_program::{Progress, Refusal, Run, Task};
-use requests::{of_kind, shown, shown_with_buffer, shown_with_run, Vector};
+use requests::words::shown;
+use requests::{of_kind, shown_with_buffer, shown_with_run, Vector};
 use std::path::{Path, PathBuf};
 use std::process::Command;
 

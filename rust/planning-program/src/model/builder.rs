@@ -6,8 +6,8 @@ use super::case::Case;
 use super::mistake::{in_range, Mistake};
 use super::names::{NameKind, NameList, Names};
 use super::program::{Procedure, Program};
-use super::records::{kind, push_record};
 use super::Model;
+use crate::records::{kind, push_record};
 
 /// The parts of a task, gathered in any order. Facts, actions, procedures and cases are each numbered from 0 in the order of being added.
 ///

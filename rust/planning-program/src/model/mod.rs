@@ -53,7 +53,6 @@ mod mistake;
 mod names;
 mod plan;
 mod program;
-mod records;
 #[cfg(test)]
 mod tests;
 

@@ -1,10 +1,10 @@
 //! A plan's steps and its bytes.
 
 use super::instruction::Instruction;
-use super::records::{kind, push_record, records_of};
+use crate::records::{kind, push_record, split_record, Record};
 use std::fmt;
 
-/// What a step does beside running its line.
+/// What a step does besides running its line.
 #[derive(Clone, Copy, Debug, PartialEq, Eq)]
 pub enum StepKind {
     /// Writes the line first.
@@ -62,19 +62,20 @@ pub fn plan_bytes(steps: &[Step]) -> Vec<u8> {
 /// The steps of a plan file, if it has the form of one: step records, each with an instruction, and the closing record at the end.
 /// Why another file is refused, and whether the steps can be made, is for the checker to say.
 pub fn steps_of(plan: &[u8]) -> Option<Vec<Step>> {
-    let records = records_of(plan)?;
-    let (closing, steps) = records.split_last()?;
-    if *closing != (kind::CLOSING, &[]) {
-        return None;
+    let mut steps = Vec::new();
+    let mut rest = plan;
+    loop {
+        let (record, behind) = split_record(rest)?;
+        if record == (kind::CLOSING, &[]) {
+            return behind.is_empty().then_some(steps);
+        }
+        steps.push(step_of(record)?);
+        rest = behind;
     }
-    steps
-        .iter()
-        .map(|&(kind, body)| step_of(kind, body))
-        .collect()
 }
 
 /// The step in one record.
-fn step_of(kind: u16, body: &[u8]) -> Option<Step> {
+fn step_of((kind, body): Record) -> Option<Step> {
     let kind = match kind {
         kind::WRITE => StepKind::Write,
         kind::REPEAT => StepKind::Repeat,

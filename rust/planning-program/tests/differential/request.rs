@@ -5,6 +5,7 @@ use std::fmt;
 use planning_program::raw::{Answer, Run};
 
 use super::entries::{Entries, FillEntry};
+use super::words::{shown, word, words_of};
 
 #[derive(Clone, Copy)]
 pub enum Request<'a> {
@@ -112,26 +113,11 @@ impl fmt::Display for Request<'_> {
 
 impl fmt::Display for Outcome {
     fn fmt(&self, f: &mut fmt::Formatter) -> fmt::Result {
-        write!(f, "{} {}", self.answer.number, self.answer.value)?;
+        write!(f, "{}", shown(self.answer))?;
         match &self.lent {
             Lent::Nothing => Ok(()),
             Lent::Buffer(bytes) => write!(f, " {}", word(bytes)),
             Lent::Record(run) => write!(f, " {}", words_of(run)),
         }
     }
-}
-
-fn word(bytes: &[u8]) -> String {
-    if bytes.is_empty() {
-        return "-".to_string();
-    }
-    bytes.iter().map(|byte| format!("{byte:02x}")).collect()
-}
-
-fn words_of(run: &Run) -> String {
-    let mut words = format!("{} {} {} {}", run.case, run.facts, run.steps, run.depth);
-    for [procedure, line] in run.frames {
-        words += &format!(" {procedure} {line}");
-    }
-    words
 }

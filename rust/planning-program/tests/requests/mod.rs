@@ -1,6 +1,9 @@
 //! The requests of vectors/base.txt and their agreed answers; vectors/README.md says how they are written.
 
+pub mod words;
+
 use planning_program::raw::{Answer, Run};
+use words::{shown, word, words_of};
 
 /// A request and its agreed answer.
 pub struct Vector {
@@ -103,31 +106,12 @@ impl Vector {
     }
 }
 
-/// An answer as the file writes it.
-pub fn shown(answer: Answer) -> String {
-    format!("{} {}", answer.number, answer.value)
-}
-
 /// An answer and the buffer afterwards.
 pub fn shown_with_buffer(answer: Answer, buffer: &[u8]) -> String {
-    let digits: String = buffer.iter().map(|byte| format!("{byte:02x}")).collect();
-    let word = if digits.is_empty() { "-" } else { &digits };
-    format!("{} {word}", shown(answer))
+    format!("{} {}", shown(answer), word(buffer))
 }
 
 /// An answer and the record afterwards.
 pub fn shown_with_run(answer: Answer, run: &Run) -> String {
-    let frames: String = run
-        .frames
-        .iter()
-        .map(|[j, i]| format!(" {j} {i}"))
-        .collect();
-    let Run {
-        case,
-        facts,
-        steps,
-        depth,
-        ..
-    } = run;
-    format!("{} {case} {facts} {steps} {depth}{frames}", shown(answer))
+    format!("{} {}", shown(answer), words_of(run))
 }
