@@ -1,4 +1,5 @@
-// Little-endian numbers at an offset. A number whose bytes are not all there reads as 0.
+// Little-endian numbers at an offset. A number whose bytes are not all there reads as 0; `two_at` and `eight_at` are for bytes that are known
+// to be there, and ask nothing.
 ghost use mathlib.Core.Path.{_≡_};
 ghost use Prim.Native.Nat.{_+_, _≤_, _<_};
 ghost use lib.ListN.{length};
@@ -12,7 +13,7 @@ fn wide(byte: u8) -> u64
 }
 
 // The number of 2 bytes that are there.
-fn two_at(bytes: &[u8], at: usize) -> u16
+pub fn two_at(bytes: &[u8], at: usize) -> u16
     requires { ⌜ at + 2 ≤ length (now bytes) ⌝ }
     ensures { λ r. ⌜ r ≡ twoAt (now (bytes .entry)) at ⌝ }
 {
@@ -20,7 +21,7 @@ fn two_at(bytes: &[u8], at: usize) -> u16
 }
 
 // The number of 8 bytes that are there.
-fn eight_at(bytes: &[u8], at: usize) -> u64
+pub fn eight_at(bytes: &[u8], at: usize) -> u64
     requires { ⌜ at + 8 ≤ length (now bytes) ⌝ }
     ensures { λ r. ⌜ r ≡ eightAt (now (bytes .entry)) at ⌝ }
 {

@@ -1,5 +1,5 @@
 // The record at an offset of a file: body length (2 bytes), kind (2 bytes), body.
-use crate::numbers::u16_at;
+use crate::numbers::two_at;
 ghost use mathlib.Core.Path.{_≡_};
 ghost use Rattle.records.specs.Record.{recordAt};
 
@@ -26,8 +26,8 @@ pub fn record_at(bytes: &[u8], at: usize) -> Found
     if bytes.len() - 4 < at {
         return Found::Missing;
     }
-    let length = u16_at(bytes, at) as usize;
-    let kind = u16_at(bytes, at + 2);
+    let length = two_at(bytes, at) as usize;
+    let kind = two_at(bytes, at + 2);
     let body = at + 4;
     if bytes.len() - body < length {
         return Found::Missing;

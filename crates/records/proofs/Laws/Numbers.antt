@@ -1,11 +1,11 @@
 -- What a byte or a number at an offset is, by whether its bytes are all there: one law for every width.
 -- Assumes nothing.
 use Prim.Native.Nat.{ℕ, _+_, _≤_, _<_}
-use mathlib.Core.Path.{_≡_, sym}
+use mathlib.Core.Path.{_≡_, sym, _∙_}
 use mathlib.Core.List.{List}
 use lib.ListN.{length, List·getD-eq-default}
 use borrow.Author.Tests.{le-leb, lt-leb}
-use Rattle.records.specs.Numbers.{byteAt, ifThere, u64At}
+use Rattle.records.specs.Numbers.{byteAt, twoAt, eightAt, ifThere, u16At, u64At}
 
 pub byte-missing : (bytes : List ℕ) (at : ℕ) → length bytes ≤ at → 0 ≡ byteAt bytes at
 byte-missing bytes at h = sym (List·getD-eq-default bytes 0 h)
@@ -19,6 +19,11 @@ module _ (width : ℕ) (bytes : List ℕ) (at value : ℕ) where
   unfolding ifThere
   missing h = simp (lt-leb _ _ h)
 
-pub u64-missing : (bytes : List ℕ) (at : ℕ) → length bytes < at + 8 → 0 ≡ u64At bytes at
+-- a number read where its bytes are all there
+pub u16-there : (bytes : List ℕ) (at value : ℕ) → value ≡ twoAt bytes at → at + 2 ≤ length bytes → value ≡ u16At bytes at
+unfolding u16At
+u16-there bytes at value e h = e ∙ there 2 bytes at _ h
+
+pub u64-there : (bytes : List ℕ) (at value : ℕ) → value ≡ eightAt bytes at → at + 8 ≤ length bytes → value ≡ u64At bytes at
 unfolding u64At
-u64-missing bytes at h = missing 8 bytes at _ h
+u64-there bytes at value e h = e ∙ there 8 bytes at _ h
