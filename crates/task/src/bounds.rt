@@ -1,5 +1,5 @@
 // A task's bounds, as its first record gives them.
-use records::numbers::u16_at;
+use records::numbers::two_at;
 ghost use mathlib.Core.Path.{_≡_};
 ghost use Prim.Native.Nat.{_+_, _≤_};
 ghost use lib.ListN.{length};
@@ -24,7 +24,7 @@ pub(crate) fn bounds_at(bytes: &[u8], at: usize) -> Bounds
         procedures: bytes[at + 1],
         last: bytes[at + 2],
         stack: bytes[at + 3],
-        steps: u16_at(bytes, at + 4),
+        steps: two_at(bytes, at + 4),
     }
 }
 

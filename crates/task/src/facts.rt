@@ -1,7 +1,8 @@
 // Fact sets and literals, and question 6 about them.
-use records::numbers::u64_at;
+use records::numbers::eight_at;
 ghost use mathlib.Core.Path.{_≡_};
-ghost use Prim.Native.Nat.{_+_, _*_, _≤_};
+ghost use Prim.Native.Nat.{ℕ, _+_, _*_, _^_, _≤_, _<_};
+ghost use lib.Dec.{leb};
 ghost use lib.ListN.{length};
 ghost use Rattle.task.specs.Facts.{literalsAt, within, consistent, pairsBeforeFault};
 
@@ -11,39 +12,48 @@ pub struct Literals {
     pub negative: u64,
 }
 
-// The pair whose 16 bytes start at an offset.
+// The pair whose 16 bytes start at an offset; they are all there.
 pub(crate) fn literals_at(bytes: &[u8], at: usize) -> Literals
+    requires { ⌜ at + 16 ≤ length (now bytes) ⌝ }
     ensures { λ r. ⌜ r ≡ literalsAt (now (bytes .entry)) at ⌝ }
 {
-    if bytes.len() < at {
-        return Literals {
-            positive: 0,
-            negative: 0,
-        };
-    }
     Literals {
-        positive: u64_at(bytes, at),
-        negative: u64_at(bytes, at + 8),
+        positive: eight_at(bytes, at),
+        negative: eight_at(bytes, at + 8),
     }
+}
+
+// The greatest set of facts below `facts`: a set has such facts alone where it is no greater.
+fn most(facts: u8) -> u64
+    ensures { λ r. ⌜ ((set : ℕ) → set < 2 ^ 64 → leb set r ≡ within facts set) ⌝ }
+{
+    if 64 <= facts {
+        return 0xffff_ffff_ffff_ffff;
+    }
+    (1 << facts) - 1
 }
 
 // Whether a set uses bits below `facts` alone.
 pub fn within(facts: u8, set: u64) -> bool
     ensures { λ r. ⌜ r ≡ within facts set ⌝ }
 {
-    if 64 <= facts {
-        return true;
-    }
-    set >> facts == 0
+    set <= most(facts)
+}
+
+// Question 6 on one pair, given the greatest set: both sets are no greater where their union is not.
+fn consistent_to(most: u64, literals: Literals) -> bool
+    ensures { λ r. ⌜ ((facts : ℕ) →
+        ((set : ℕ) → set < 2 ^ 64 → leb set most ≡ within facts set)
+        → r ≡ consistent facts literals) ⌝ }
+{
+    (literals.positive | literals.negative <= most) & (literals.positive & literals.negative == 0)
 }
 
 // Question 6 on one pair.
 pub(crate) fn consistent(facts: u8, literals: Literals) -> bool
     ensures { λ r. ⌜ r ≡ consistent facts literals ⌝ }
 {
-    within(facts, literals.positive)
-        & within(facts, literals.negative)
-        & (literals.positive & literals.negative == 0)
+    consistent_to(most(facts), literals)
 }
 
 // Of `count` pairs from `at` on, how many stand before the first that fails question 6.
@@ -51,9 +61,10 @@ pub(crate) fn pairs_before_fault(bytes: &[u8], at: usize, count: usize, facts: u
     requires { ⌜ at + 16 * count ≤ length (now bytes) ⌝ }
     ensures { λ r. ⌜ r ≡ pairsBeforeFault facts (now (bytes .entry)) at count ⌝ }
 {
+    let most = most(facts);
     let mut k = 0;
     while k < count {
-        if consistent(facts, literals_at(bytes, at + 16 * k)) {
+        if consistent_to(most, literals_at(bytes, at + 16 * k)) {
             k += 1;
         } else {
             return k;

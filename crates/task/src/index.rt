@@ -3,12 +3,11 @@
 use crate::bounds::Bounds;
 use crate::facts::Literals;
 use crate::facts::literals_at;
-use records::numbers::u16_at;
-use records::numbers::u64_at;
+use records::numbers::eight_at;
+use records::numbers::two_at;
 ghost use mathlib.Core.Path.{_≡_};
-ghost use Prim.Native.Nat.{_+_, _^_, _<_};
-ghost use Rattle.records.specs.Numbers.{u64At};
-ghost use Rattle.task.specs.Facts.{literalsAt};
+ghost use Prim.Native.Nat.{_+_, _*_, _≤_};
+ghost use lib.ListN.{length};
 ghost use Rattle.task.specs.Index.{actionAt, effectAt, caseAt};
 
 // The bounds, how many actions and cases there are, and the offset of the first case.
@@ -45,60 +44,38 @@ pub struct Case {
     pub goal: Literals,
 }
 
-// The pair so many bytes after an offset.
-fn literals_after(bytes: &[u8], at: usize, plus: usize) -> Literals
-    requires { ⌜ plus < 2 ^ 32 ⌝ }
-    ensures { λ r. ⌜ r ≡ literalsAt (now (bytes .entry)) (at + plus) ⌝ }
-{
-    if bytes.len() < at {
-        return Literals {
-            positive: 0,
-            negative: 0,
-        };
-    }
-    literals_at(bytes, at + plus)
-}
-
-// The set so many bytes after an offset.
-fn set_after(bytes: &[u8], at: usize, plus: usize) -> u64
-    requires { ⌜ plus < 2 ^ 32 ⌝ }
-    ensures { λ r. ⌜ r ≡ u64At (now (bytes .entry)) (at + plus) ⌝ }
-{
-    if bytes.len() < at {
-        return 0;
-    }
-    u64_at(bytes, at + plus)
-}
-
-// The action whose record is at an offset.
+// The action whose record is at an offset; its head and its precondition are there.
 pub fn action_at(task: &[u8], at: usize) -> Action
+    requires { ⌜ at + 20 ≤ length (now task) ⌝ }
     ensures { λ r. ⌜ r ≡ actionAt (now (task .entry)) at ⌝ }
 {
     Action {
-        precondition: literals_after(task, at, 4),
-        effects: u16_at(task, at) / 32,
+        precondition: literals_at(task, at + 4),
+        effects: two_at(task, at) / 32,
     }
 }
 
-// An effect of the action whose record is at an offset.
+// An effect of the action whose record is at an offset; the record goes on to the effect's end.
 pub fn effect_at(task: &[u8], at: usize, number: u16) -> Effect
+    requires { ⌜ at + (52 + 32 * number) ≤ length (now task) ⌝ }
     ensures { λ r. ⌜ r ≡ effectAt (now (task .entry)) at number ⌝ }
 {
     let from = 32 * (number as usize);
     Effect {
-        condition: literals_after(task, at, 20 + from),
-        raised: set_after(task, at, 36 + from),
-        lowered: set_after(task, at, 44 + from),
+        condition: literals_at(task, at + (20 + from)),
+        raised: eight_at(task, at + (36 + from)),
+        lowered: eight_at(task, at + (44 + from)),
     }
 }
 
-// A case, given the offset of the first one.
+// A case, given the offset of the first one; the cases go on to its end.
 pub fn case_at(task: &[u8], first: usize, number: u8) -> Case
+    requires { ⌜ first + (28 + 28 * number) ≤ length (now task) ⌝ }
     ensures { λ r. ⌜ r ≡ caseAt (now (task .entry)) first number ⌝ }
 {
     let from = 28 * (number as usize);
     Case {
-        start: set_after(task, first, 4 + from),
-        goal: literals_after(task, first, 12 + from),
+        start: eight_at(task, first + (4 + from)),
+        goal: literals_at(task, first + (12 + from)),
     }
 }

@@ -2,8 +2,11 @@
 use crate::bounds::Bounds;
 use records::numbers::byte_at;
 ghost use mathlib.Core.Path.{_≡_};
-ghost use lib.ListN.{set};
-ghost use Rattle.task.specs.Instruction.{keep, decode, decodeFor, encode, tripleAt, withTriple};
+ghost use mathlib.Core.Bool.{true};
+ghost use Prim.Native.Nat.{_+_, _≤_};
+ghost use lib.ListN.{length, set};
+ghost use Rattle.task.specs.Instruction.{spelled, decode, decodeFor, encode, tripleAt, withTriple};
+ghost use Rattle.task.specs.Program.{isInstruction};
 ghost use Rattle.task.specs.declared.instruction.Decoded.the-variants.{Is};
 
 // A procedure's number.
@@ -40,49 +43,64 @@ pub enum Decoded {
     Nothing,
 }
 
-// An instruction, where its bytes are zero as named and it is allowed on its line.
-fn kept(zeros: bool, allowed: bool, w: Instruction) -> Decoded
-    ensures { λ r. ⌜ r ≡ keep zeros (keep allowed (Is w)) ⌝ }
-{
-    if zeros & allowed {
-        Decoded::Is(w)
-    } else {
-        Decoded::Nothing
-    }
-}
-
 // The instruction that three bytes spell, if it is allowed on the line.
 pub fn decode(b: Bounds, actions: u8, line: Line, w: Triple) -> Decoded
     ensures { λ r. ⌜ r ≡ decode b actions line w ⌝ }
 {
-    let before_last = line.0 < b.last;
     let op = w.op;
     match op {
-        0 => kept(
-            (w.p == 0) & (w.q == 0),
-            line.0 <= b.last,
-            Instruction::Empty,
-        ),
-        1 => kept(
-            w.q == 0,
-            before_last & (w.p < actions),
-            Instruction::Act(w.p),
-        ),
-        2 => kept(
-            true,
-            before_last & (w.p <= b.last) & (w.q < b.facts),
-            Instruction::Goto(Line(w.p), w.q),
-        ),
-        3 => kept(
-            w.q == 0,
-            before_last & (w.p < b.procedures),
-            Instruction::Call(Proc(w.p)),
-        ),
-        4 => kept(
-            (w.p == 0) & (w.q == 0),
-            (1 <= line.0) & (line.0 <= b.last),
-            Instruction::End,
-        ),
+        0 => {
+            if line.0 <= b.last {
+                if w.p == 0 {
+                    if w.q == 0 {
+                        return Decoded::Is(Instruction::Empty);
+                    }
+                }
+            }
+            Decoded::Nothing
+        }
+        1 => {
+            if line.0 < b.last {
+                if w.p < actions {
+                    if w.q == 0 {
+                        return Decoded::Is(Instruction::Act(w.p));
+                    }
+                }
+            }
+            Decoded::Nothing
+        }
+        2 => {
+            if line.0 < b.last {
+                if w.p <= b.last {
+                    if w.q < b.facts {
+                        return Decoded::Is(Instruction::Goto(Line(w.p), w.q));
+                    }
+                }
+            }
+            Decoded::Nothing
+        }
+        3 => {
+            if line.0 < b.last {
+                if w.p < b.procedures {
+                    if w.q == 0 {
+                        return Decoded::Is(Instruction::Call(Proc(w.p)));
+                    }
+                }
+            }
+            Decoded::Nothing
+        }
+        4 => {
+            if 1 <= line.0 {
+                if line.0 <= b.last {
+                    if w.p == 0 {
+                        if w.q == 0 {
+                            return Decoded::Is(Instruction::End);
+                        }
+                    }
+                }
+            }
+            Decoded::Nothing
+        }
         5..=255 => Decoded::Nothing,
     }
 }
@@ -138,6 +156,18 @@ pub fn triple_at(bytes: &[u8], at: usize) -> Triple
     }
 }
 
+// The three bytes at an offset; they are all there.
+pub fn three_at(bytes: &[u8], at: usize) -> Triple
+    requires { ⌜ at + 3 ≤ length (now bytes) ⌝ }
+    ensures { λ r. ⌜ r ≡ tripleAt (now (bytes .entry)) at ⌝ }
+{
+    Triple {
+        op: bytes[at],
+        p: bytes[at + 1],
+        q: bytes[at + 2],
+    }
+}
+
 // Writes a byte at an offset; past the end there is nothing to write.
 fn put(bytes: &mut [u8], at: usize, byte: u8)
     ensures { λ _. ⌜ now (bytes .exit) ≡ set (now (bytes .entry)) at byte ⌝ }
@@ -157,4 +187,19 @@ pub fn put_triple(bytes: &mut [u8], at: usize, w: Triple)
     put(bytes, at, w.op);
     put(bytes, at + 1, w.p);
     put(bytes, at + 2, w.q);
+}
+
+// The instruction that three bytes spell, which spell one.
+pub fn spelled(w: Triple) -> Instruction
+    requires { ⌜ isInstruction (spelled w) ≡ true ⌝ }
+    ensures { λ r. ⌜ spelled w ≡ Is r ⌝ }
+{
+    let op = w.op;
+    match op {
+        1 => Instruction::Act(w.p),
+        2 => Instruction::Goto(Line(w.p), w.q),
+        3 => Instruction::Call(Proc(w.p)),
+        4 => Instruction::End,
+        _ => Instruction::Empty,
+    }
 }

@@ -3,21 +3,27 @@ use crate::bounds::Bounds;
 use crate::bounds::line_count;
 use crate::index::Index;
 use crate::instruction::Decoded;
+use crate::instruction::Instruction;
 use crate::instruction::Line;
 use crate::instruction::Proc;
 use crate::instruction::Triple;
 use crate::instruction::decode;
+use crate::instruction::spelled;
+use crate::instruction::three_at;
 use crate::instruction::triple_at;
 use crate::questions::PROGRAM_LENGTH;
 use crate::questions::PROGRAM_LINES;
 use crate::questions::PROGRAM_PRESETS;
 use crate::verdict::Verdict;
+use records::numbers::byte_at;
 ghost use mathlib.Core.Path.{_≡_};
 ghost use Prim.Native.Nat.{_+_, _*_, _≤_};
+ghost use mathlib.Core.Bool.{true};
 ghost use lib.ListN.{length};
 ghost use Rattle.task.specs.Bounds.{lineCount};
 ghost use Rattle.task.specs.First.{firstNo};
 ghost use Rattle.task.specs.Program.{lineOffset, instructionOn, isInstruction, lineAllowed, sameTriple, presetHeld, programVerdict};
+ghost use Rattle.task.specs.declared.instruction.Decoded.the-variants.{Is};
 
 // Where a line of a procedure begins in a program.
 pub fn line_offset(b: Bounds, procedure: Proc, line: Line) -> usize
@@ -33,6 +39,18 @@ pub fn instruction_on(index: Index, program: &[u8], procedure: Proc, line: Line)
     let bounds = index.bounds;
     let triple = triple_at(program, line_offset(bounds, procedure, line));
     decode(bounds, index.actions, line, triple)
+}
+
+// The instruction on a line that has its three bytes and an instruction that is allowed there, as every line of a program that
+// passes has: its bytes spell it.
+pub fn line_instruction(index: Index, program: &[u8], procedure: Proc, line: Line) -> Instruction
+    requires { ⌜ (lineOffset (index .bounds) procedure line + 3 ≤ length (now program))
+        × (isInstruction (instructionOn index (now program) procedure line) ≡ true) ⌝ }
+    ensures { λ r. ⌜ instructionOn index (now (program .entry)) procedure line ≡ Is r ⌝ }
+{
+    let bounds = index.bounds;
+    let w = three_at(program, line_offset(bounds, procedure, line));
+    spelled(w)
 }
 
 // Whether three bytes decoded to an instruction.
@@ -52,14 +70,16 @@ fn same_triple(v: Triple, w: Triple) -> bool
     (v.op == w.op) & (v.p == w.p) & (v.q == w.q)
 }
 
-// Question 27 on one line.
+// Question 27 on one line; most lines are not preset.
 fn preset_held(presets: &[u8], program: &[u8], k: usize) -> bool
-    requires { ⌜ 3 * k ≤ length (now program) ⌝ }
+    requires { ⌜ 3 * k + 3 ≤ length (now program) ⌝ }
     ensures { λ r. ⌜ r ≡ presetHeld (now (presets .entry)) (now (program .entry)) k ⌝ }
 {
-    let preset = triple_at(presets, 3 * k);
-    let line = triple_at(program, 3 * k);
-    (preset.op == 0) | same_triple(preset, line)
+    let at = 3 * k;
+    if byte_at(presets, at) == 0 {
+        return true;
+    }
+    same_triple(triple_at(presets, at), three_at(program, at))
 }
 
 // How many lines stand before the first that question 26 turns down.
@@ -73,7 +93,7 @@ fn allowed_lines(index: Index, program: &[u8]) -> usize
     let mut k = 0;
     let mut line = 0;
     while k < count {
-        if is_instruction(decode(bounds, index.actions, Line(line), triple_at(program, 3 * k))) {
+        if is_instruction(decode(bounds, index.actions, Line(line), three_at(program, 3 * k))) {
             k += 1;
             line = if line < last { line + 1 } else { 0 };
         } else {

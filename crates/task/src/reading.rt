@@ -15,7 +15,7 @@ use crate::instruction::Proc;
 use crate::instruction::decode_for;
 use crate::instruction::encode;
 use crate::instruction::put_triple;
-use crate::instruction::triple_at;
+use crate::instruction::three_at;
 use crate::program::line_offset;
 use crate::questions::BOUNDS;
 use crate::questions::CLOSED;
@@ -28,7 +28,7 @@ use crate::questions::SETS;
 use crate::questions::WHOLE;
 use crate::verdict::Verdict;
 use records::numbers::byte_at;
-use records::numbers::u64_at;
+use records::numbers::eight_at;
 use records::record::Found;
 use records::record::record_at;
 ghost use mathlib.Core.Path.{_≡_};
@@ -173,9 +173,9 @@ fn read_preset(
     let at = progress.at;
     let index = progress.index;
     let bounds = index.bounds;
-    let procedure = byte_at(task, body);
-    let line = byte_at(task, body + 1);
-    let triple = triple_at(task, body + 2);
+    let procedure = task[body];
+    let line = task[body + 1];
+    let triple = three_at(task, body + 2);
     let decoded = decode_for(bounds, index.actions, Proc(procedure), Line(line), triple);
     let Decoded::Is(w) = decoded else {
         return Outcome::Refused(PRESET, at);
@@ -213,7 +213,7 @@ fn read_case(task: &[u8], progress: Progress, body: usize, next: usize) -> Outco
         return Outcome::Refused(COUNT, at);
     }
     let facts = bounds.facts;
-    if within(facts, u64_at(task, body)) & consistent(facts, literals_at(task, body + 8)) {
+    if within(facts, eight_at(task, body)) & consistent(facts, literals_at(task, body + 8)) {
         Outcome::Next(Progress {
             at: next,
             section: Section::Cases,

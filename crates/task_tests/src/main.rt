@@ -15,6 +15,10 @@ use task::index::effect_at;
 use task::program::check_program;
 use task::reading::read_task;
 use task::verdict::Verdict;
+ghost use mathlib.Core.Path.{_≡_};
+ghost use mathlib.Core.Bool.{true};
+ghost use Prim.Native.Nat.{_+_, _≤_};
+ghost use lib.ListN.{length};
 
 fn write(text: &[u8]) {
     io::write_all(STDOUT_FILENO, text);
@@ -43,7 +47,20 @@ fn write_verdict(verdict: Verdict) {
     write(b"\n");
 }
 
+// Whether so many bytes are there from an offset on, as those of a task that passes are.
+fn there(bytes: &[u8], at: usize, size: usize) -> bool
+    ensures { λ r. ⌜ (r ≡ true → at + size ≤ length (now (bytes .entry))) ⌝ }
+{
+    if bytes.len() < size {
+        return false;
+    }
+    at <= bytes.len() - size
+}
+
 fn write_effect(bytes: &[u8], at: usize, number: u16) {
+    if !there(bytes, at, 52 + 32 * (number as usize)) {
+        return;
+    }
     let effect = effect_at(bytes, at, number);
     write(b"; where");
     write_literals(effect.condition);
@@ -53,6 +70,9 @@ fn write_effect(bytes: &[u8], at: usize, number: u16) {
 }
 
 fn write_action(bytes: &[u8], at: usize) {
+    if !there(bytes, at, 20) {
+        return;
+    }
     let action = action_at(bytes, at);
     write_number(b"  action at ", at as u64);
     write(b" needs");
@@ -65,6 +85,9 @@ fn write_action(bytes: &[u8], at: usize) {
 }
 
 fn write_case(bytes: &[u8], first: usize, number: u8) {
+    if !there(bytes, first, 28 + 28 * (number as usize)) {
+        return;
+    }
     let case = case_at(bytes, first, number);
     write_number(b"  case from ", case.start);
     write(b" to");

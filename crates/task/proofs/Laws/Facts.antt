@@ -1,35 +1,66 @@
--- Sets below a number of facts by a shift, question 6 at one pair and at each pair of a row that passes it, and pairs past the end of a
--- file.
+-- Sets below a number of facts by the greatest of them, two of them by their union, and question 6 at one pair and at each pair of a row that passes it.
 -- Assumes nothing.
-use Prim.Native.Nat.{ℕ, _+_, _*_, _/_, _^_, _≤_, _<_}
-use mathlib.Core.Path.{_≡_, sym, _∙_}
-use mathlib.Core.Bool.{Bool, true}
+use Prim.Native.Nat.{ℕ, _+_, _-_, _*_, _%_, _^_, _≤_, _<_}
+use mathlib.Core.Path.{_≡_, sym, ap, _∙_}
+use mathlib.Core.Bool.{Bool, true, _&&_}
 use mathlib.Core.List.{List}
-use native.Mathlib.Nat.{div-lt-iff-lt-mul, div-eq-of-lt, lt-of-lt-of-le, lt-of-not-le}
+use native.Mathlib.Nat.{lt-of-lt-of-le, lt-of-not-le}
 use native.Mathlib.Decide.{decLe}
 use native.Mathlib.Omega.{arith}
-use lib.ListN.{length}
-use lib.Dec.{eqb, ltb}
-use lib.Pow.{pow-pos, pow-mono}
-use borrow.Author.Tests.{lt-ltb, le-ltb, eq-eqb, ne-eqb}
-use Rattle.records.proofs.Laws.Numbers.{u64-missing}
+use lib.Bits.{bitAnd, bitOr, and-le-l, and-le-r, or-add-and, or-lt}
+use lib.Dec.{eqb, leb}
+use lib.Pow.{pow-pos, pow-mono, shl-exact}
+use borrow.Author.Tests.{lt-ltb, le-ltb, le-leb, lt-leb}
 use Rattle.task.proofs.Laws.First.{found-all}
 use Rattle.task.specs.Facts.{literalsAt, within, consistent, pairConsistent, pairsBeforeFault}
 use Rattle.task.specs.declared.facts.Literals.{Literals}
 
-pub within-all : (facts set : ℕ) → 64 ≤ facts → set < 2 ^ 64 → true ≡ within facts set
+-- a set has facts below `facts` alone exactly when it is no greater than the greatest such set
+pub most-all : (facts set : ℕ) → 64 ≤ facts → set < 2 ^ 64 → leb set (2 ^ 64 - 1) ≡ within facts set
 unfolding within
-within-all facts set h k = sym (lt-ltb _ _ (lt-of-lt-of-le k (pow-mono h)))
+most-all facts set h k = le-leb set (2 ^ 64 - 1) (omega arith) ∙ sym (lt-ltb _ _ (lt-of-lt-of-le k (pow-mono h)))
 
-pub within-shift : (facts set : ℕ) → eqb (set / 2 ^ facts) 0 ≡ within facts set
+pub one-shifted : (facts : ℕ) → facts < 64 → 1 * 2 ^ facts % 2 ^ 64 ≡ 2 ^ facts
+one-shifted facts h = let e = shl-exact {a = 1} 1 facts 64 (omega arith) (omega arith) in omega arith
+
+pub most-below : (facts set : ℕ) → facts < 64 → leb set (1 * 2 ^ facts % 2 ^ 64 - 1) ≡ within facts set
 unfolding within
-within-shift facts set = elim (decLe (2 ^ facts) set) [ yes h ↦ more h | no h ↦ less (lt-of-not-le h) ]
-  where
-    less : set < 2 ^ facts → eqb (set / 2 ^ facts) 0 ≡ ltb set (2 ^ facts)
-    less h = eq-eqb _ _ (div-eq-of-lt h) ∙ sym (lt-ltb _ _ h)
+most-below facts set h =
+    let e = one-shifted facts h in
+    let p = pow-pos facts in
+    let most = 1 * 2 ^ facts % 2 ^ 64 - 1 in
+    elim (decLe (2 ^ facts) set) [
+      | yes k ↦ lt-leb set most (omega arith) ∙ sym (le-ltb _ _ k)
+      | no k ↦ le-leb set most (omega arith) ∙ sym (lt-ltb _ _ (lt-of-not-le k))
+    ]
 
-    more : 2 ^ facts ≤ set → eqb (set / 2 ^ facts) 0 ≡ ltb set (2 ^ facts)
-    more h = ne-eqb _ _ (λ (e : set / 2 ^ facts ≡ 0). omega (arith, div-lt-iff-lt-mul {x = set} {y = 1} (pow-pos facts) .0 (omega arith))) ∙ sym (le-ltb _ _ h)
+-- a union is no less than each of its sets
+pub within-both : (facts a b : ℕ) → within facts (bitOr a b) ≡ (within facts a && within facts b)
+unfolding within
+within-both facts a b =
+    let most = 2 ^ facts in
+    let sum = or-add-and a b in
+    let left = and-le-l a b in
+    let right = and-le-r a b in
+    elim (decLe most a) [
+      | yes h ↦ le-ltb (bitOr a b) most (omega arith) ∙ sym (simp (le-ltb a most h))
+      | no h ↦
+          elim (decLe most b) [
+            | yes k ↦ le-ltb (bitOr a b) most (omega arith) ∙ sym (simp (lt-ltb a most (lt-of-not-le h), le-ltb b most k))
+            | no k ↦
+                lt-ltb (bitOr a b) most (or-lt facts a b (lt-of-not-le h) (lt-of-not-le k))
+                ∙ sym (simp (lt-ltb a most (lt-of-not-le h), lt-ltb b most (lt-of-not-le k)))
+          ]
+    ]
+
+-- question 6 on one pair, by the greatest set
+pub pair-below : (facts most : ℕ) (l : Literals) → ((set : ℕ) → set < 2 ^ 64 → leb set most ≡ within facts set)
+    → l .positive < 2 ^ 64 → l .negative < 2 ^ 64
+    → (leb (bitOr (l .positive) (l .negative)) most && eqb (bitAnd (l .positive) (l .negative)) 0) ≡ consistent facts l
+unfolding consistent
+pair-below facts most l m p n =
+    ap (λ (b : Bool). b && eqb (bitAnd (l .positive) (l .negative)) 0)
+    (m _ (or-lt 64 _ _ p n) ∙ within-both facts (l .positive) (l .negative))
 
 pub pair-test : (facts : ℕ) (bytes : List ℕ) (at k : ℕ) (l : Literals) (r t : Bool) → l ≡ literalsAt bytes (at + 16 * k) → r ≡ consistent facts l → r ≡ t
     → pairConsistent facts bytes at k ≡ t
@@ -40,7 +71,3 @@ pub pairs-consistent : (facts : ℕ) (bytes : List ℕ) (at count : ℕ) → pai
     → (offset : ℕ) → offset ≡ at + 16 * k → consistent facts (literalsAt bytes offset) ≡ true
 unfolding pairsBeforeFault pairConsistent
 pairs-consistent facts bytes at count h k l offset e = rw e (found-all (pairConsistent facts bytes at) count h k l)
-
-pub literals-missing : (bytes : List ℕ) (at : ℕ) → length bytes < at → _≡_ {A = Literals} (record { positive = 0; negative = 0 }) (literalsAt bytes at)
-unfolding literalsAt
-literals-missing bytes at h = cc (u64-missing bytes at (omega arith), u64-missing bytes (at + 8) (omega arith))

@@ -6,9 +6,9 @@ use mathlib.Core.List.{List}
 use lib.ListN.{length, set, length-set}
 use lib.Seq.{set-out}
 use mathlib.Core.Path.{_≡_, refl, sym, ap, _∙_}
-use mathlib.Core.Bool.{Bool, true, false, true≢false, false≢true, _&&_}
+use mathlib.Core.Bool.{Bool, true, false, _&&_}
 use lib.Dec.{leb, ltb, eqb}
-use borrow.Author.Tests.{ltb-true, leb-true, ne-eqb, eqb-true}
+use borrow.Author.Tests.{lt-ltb, le-leb, ltb-true, leb-true, eq-eqb, ne-eqb, eqb-true}
 use native.Mathlib.Omega.{arith}
 use Rattle.records.proofs.Laws.Numbers.{byte-missing}
 use Rattle.records.proofs.Laws.Tests.{both-true}
@@ -39,17 +39,26 @@ pub keep-no : (t : Bool) (d : Decoded) → t ≡ false → Nothing ≡ keep t d
 unfolding keep
 keep-no t d h = rw h
 
-pub kept-both : (zeros ok : Bool) (d : Decoded) → (zeros && ok) ≡ true → d ≡ keep zeros (keep ok d)
-unfolding keep
-kept-both true true d h = refl
-kept-both true false d h = absurd (false≢true h)
-kept-both false ok d h = absurd (false≢true h)
+kept-yes : (zeros ok : Bool) (d : Decoded) → zeros ≡ true → ok ≡ true → d ≡ keep zeros (keep ok d)
+kept-yes zeros ok d z o = keep-yes ok d o ∙ keep-yes zeros _ z
 
-pub kept-not : (zeros ok : Bool) (d : Decoded) → (zeros && ok) ≡ false → Nothing ≡ keep zeros (keep ok d)
+kept-no : (zeros ok : Bool) (d : Decoded) → (zeros ≡ true → ok ≡ true → ⊥) → Nothing ≡ keep zeros (keep ok d)
 unfolding keep
-kept-not true true d h = absurd (true≢false h)
-kept-not true false d h = refl
-kept-not false ok d h = refl
+kept-no true true d n = absurd (n refl refl)
+kept-no true false d n = refl
+kept-no false ok d n = refl
+
+-- an op above 4 spells none
+pub spelled-other : (w : Triple) → 5 ≤ w .op → spelled w ≡ Nothing
+unfolding spelled
+spelled-other w h =
+    simp (
+      ne-eqb (w .op) 0 (omega arith),
+      ne-eqb (w .op) 1 (omega arith),
+      ne-eqb (w .op) 2 (omega arith),
+      ne-eqb (w .op) 3 (omega arith),
+      ne-eqb (w .op) 4 (omega arith),
+    )
 
 module _ (b : Bounds) (actions : ℕ) (line : Line) where
   line-keep : (t : Bool) (w : Instruction) → keep t (keep (allowed b actions line w) (Is w)) ≡ whereAllowed b actions line (keep t (Is w))
@@ -86,15 +95,8 @@ module _ (b : Bounds) (actions : ℕ) (line : Line) where
     decode-end h = rw h (line-keep _ _)
 
     pub decode-other : 5 ≤ w .op → Nothing ≡ decode b actions line w
-    unfolding decode spelled whereAllowed
-    decode-other h =
-        simp (
-          ne-eqb (w .op) 0 (omega arith),
-          ne-eqb (w .op) 1 (omega arith),
-          ne-eqb (w .op) 2 (omega arith),
-          ne-eqb (w .op) 3 (omega arith),
-          ne-eqb (w .op) 4 (omega arith),
-        )
+    unfolding decode whereAllowed
+    decode-other h = rw (spelled-other w h) refl
 
   -- what is asked of an instruction on a line, in words
   abbrev pub Allowed : Instruction → Type 0
@@ -121,6 +123,64 @@ module _ (b : Bounds) (actions : ℕ) (line : Line) where
       let k = both-true (leb 1 (line .0)) _ h in
       (leb-true 1 (line .0) (k .0), leb-true (line .0) (b .last) (k .1))
 
+  allowing : (w : Instruction) → Allowed w → allowed b actions line w ≡ true
+  unfolding allowed
+  allowing Empty h = le-leb (line .0) (b .last) h
+  allowing (Act action) h = simp (lt-ltb (line .0) (b .last) (h .0), lt-ltb action actions (h .1))
+  allowing (Goto target fact) h =
+      simp (lt-ltb (line .0) (b .last) (h .0), le-leb (target .0) (b .last) (h .1), lt-ltb fact (b .facts) (h .2))
+  allowing (Call procedure) h = simp (lt-ltb (line .0) (b .last) (h .0), lt-ltb (procedure .0) (b .procedures) (h .1))
+  allowing End h = simp (le-leb 1 (line .0) (h .0), le-leb (line .0) (b .last) (h .1))
+
+  -- three bytes by their op, test by test: `yes` where each passes, `no` where they do not all pass
+  module _ (w : Triple) where
+    module _ (zeros : Bool) (v : Instruction) (e : keep zeros (keep (allowed b actions line v) (Is v)) ≡ decode b actions line w) where
+      decode-yes : zeros ≡ true → Allowed v → Is v ≡ decode b actions line w
+      decode-yes z a = kept-yes zeros _ _ z (allowing v a) ∙ e
+
+      decode-no : (zeros ≡ true → Allowed v → ⊥) → Nothing ≡ decode b actions line w
+      decode-no n = kept-no zeros _ _ (λ z a. n z (allows v a)) ∙ e
+
+    both-zero : w .p ≡ 0 → w .q ≡ 0 → (eqb (w .p) 0 && eqb (w .q) 0) ≡ true
+    both-zero p q = simp (eq-eqb (w .p) 0 p, eq-eqb (w .q) 0 q)
+
+    zero-both : (eqb (w .p) 0 && eqb (w .q) 0) ≡ true → (w .p ≡ 0) × (w .q ≡ 0)
+    zero-both z =
+        let k = both-true (eqb (w .p) 0) (eqb (w .q) 0) z in
+        (eqb-true (w .p) 0 (k .0), eqb-true (w .q) 0 (k .1))
+
+    pub empty-yes : w .op ≡ 0 → line .0 ≤ b .last → w .p ≡ 0 → w .q ≡ 0 → Is Empty ≡ decode b actions line w
+    empty-yes h l p q = decode-yes _ Empty (decode-empty w h) (both-zero p q) l
+
+    pub empty-no : w .op ≡ 0 → (line .0 ≤ b .last → w .p ≡ 0 → w .q ≡ 0 → ⊥) → Nothing ≡ decode b actions line w
+    empty-no h n = decode-no _ Empty (decode-empty w h) λ z a. let k = zero-both z in n a (k .0) (k .1)
+
+    pub act-yes : w .op ≡ 1 → line .0 < b .last → w .p < actions → w .q ≡ 0 → Is (Act (w .p)) ≡ decode b actions line w
+    act-yes h l p q = decode-yes _ (Act (w .p)) (decode-act w h) (eq-eqb _ _ q) (l, p)
+
+    pub act-no : w .op ≡ 1 → (line .0 < b .last → w .p < actions → w .q ≡ 0 → ⊥) → Nothing ≡ decode b actions line w
+    act-no h n = decode-no _ (Act (w .p)) (decode-act w h) λ z a. n (a .0) (a .1) (eqb-true _ _ z)
+
+    pub goto-yes : w .op ≡ 2 → line .0 < b .last → w .p ≤ b .last → w .q < b .facts
+        → Is (Goto (record { 0 = w .p }) (w .q)) ≡ decode b actions line w
+    goto-yes h l p q = decode-yes true (Goto (record { 0 = w .p }) (w .q)) (decode-goto w h) refl (l, p, q)
+
+    pub goto-no : w .op ≡ 2 → (line .0 < b .last → w .p ≤ b .last → w .q < b .facts → ⊥) → Nothing ≡ decode b actions line w
+    goto-no h n = decode-no true (Goto (record { 0 = w .p }) (w .q)) (decode-goto w h) λ z a. n (a .0) (a .1) (a .2)
+
+    pub call-yes : w .op ≡ 3 → line .0 < b .last → w .p < b .procedures → w .q ≡ 0
+        → Is (Call (record { 0 = w .p })) ≡ decode b actions line w
+    call-yes h l p q = decode-yes _ (Call (record { 0 = w .p })) (decode-call w h) (eq-eqb _ _ q) (l, p)
+
+    pub call-no : w .op ≡ 3 → (line .0 < b .last → w .p < b .procedures → w .q ≡ 0 → ⊥) → Nothing ≡ decode b actions line w
+    call-no h n = decode-no _ (Call (record { 0 = w .p })) (decode-call w h) λ z a. n (a .0) (a .1) (eqb-true _ _ z)
+
+    pub end-yes : w .op ≡ 4 → 1 ≤ line .0 → line .0 ≤ b .last → w .p ≡ 0 → w .q ≡ 0 → Is End ≡ decode b actions line w
+    end-yes h k l p q = decode-yes _ End (decode-end w h) (both-zero p q) (k, l)
+
+    pub end-no : w .op ≡ 4 → (1 ≤ line .0 → line .0 ≤ b .last → w .p ≡ 0 → w .q ≡ 0 → ⊥) → Nothing ≡ decode b actions line w
+    end-no h n = decode-no _ End (decode-end w h) λ z a. let k = zero-both z in n (a .0) (a .1) (k .0) (k .1)
+
   where-allowed : (d : Decoded) (w : Instruction) → whereAllowed b actions line d ≡ Is w → allowed b actions line w ≡ true
   unfolding whereAllowed
   where-allowed (Is v) w h =
@@ -146,39 +206,51 @@ module _ (b : Bounds) (actions : ℕ) (line : Line) where
 pub triple-is : {v w : Triple} → v .op ≡ w .op → v .p ≡ w .p → v .q ≡ w .q → v ≡ w
 triple-is e f g = λ i. record { op = e i; p = f i; q = g i }
 
-keep-inverse : (t u : Bool) (v w : Instruction) → Is w ≡ keep t (keep u (Is v)) → (t ≡ true) × (v ≡ w)
-keep-inverse t u v w h =
-    let k = keep-is t _ w (sym h) in
-    let e = keep-is u (Is v) w (k .1) .1 in
-    (k .0, cc)
-
-module _ (b : Bounds) (actions : ℕ) (line : Line) (t : Triple) (w : Instruction) (h : decode b actions line t ≡ Is w) where
-  spelled-by : (zeros ok : Bool) (v : Instruction) → keep zeros (keep ok (Is v)) ≡ decode b actions line t → (zeros ≡ true) × (v ≡ w)
-  spelled-by zeros ok v e = keep-inverse zeros ok v w (sym (e ∙ h))
+-- the bytes of an instruction that three bytes spell are those three
+module _ (t : Triple) (w : Instruction) (h : spelled t ≡ Is w) where
+  spelled-by : (zeros : Bool) (v : Instruction) → spelled t ≡ keep zeros (Is v) → (zeros ≡ true) × (v ≡ w)
+  spelled-by zeros v e =
+      let k = keep-is zeros (Is v) w (sym e ∙ h) in
+      let i : v ≡ w = cc (k .1) in
+      (k .0, i)
 
   by-op : (op : ℕ) → t .op ≡ op → encode w ≡ t
-  unfolding encode
+  unfolding spelled encode keep
   by-op zero e =
-      let k = spelled-by _ _ _ (decode-empty b actions line t e) in
+      let k = spelled-by (eqb (t .p) 0 && eqb (t .q) 0) Empty (rw e) in
       let z = both-true _ _ (k .0) in
       ap encode (sym (k .1)) ∙ triple-is (sym e) (sym (eqb-true _ _ (z .0))) (sym (eqb-true _ _ (z .1)))
   by-op (suc zero) e =
-      let k = spelled-by _ _ _ (decode-act b actions line t e) in
+      let k = spelled-by (eqb (t .q) 0) (Act (t .p)) (rw e) in
       ap encode (sym (k .1)) ∙ triple-is (sym e) refl (sym (eqb-true _ _ (k .0)))
   by-op (suc (suc zero)) e =
-      let k = spelled-by _ _ _ (decode-goto b actions line t e) in
+      let k = spelled-by true (Goto (record { 0 = t .p }) (t .q)) (rw e) in
       ap encode (sym (k .1)) ∙ triple-is (sym e) refl refl
   by-op (suc (suc (suc zero))) e =
-      let k = spelled-by _ _ _ (decode-call b actions line t e) in
+      let k = spelled-by (eqb (t .q) 0) (Call (record { 0 = t .p })) (rw e) in
       ap encode (sym (k .1)) ∙ triple-is (sym e) refl (sym (eqb-true _ _ (k .0)))
   by-op (suc (suc (suc (suc zero)))) e =
-      let k = spelled-by _ _ _ (decode-end b actions line t e) in
+      let k = spelled-by (eqb (t .p) 0 && eqb (t .q) 0) End (rw e) in
       let z = both-true _ _ (k .0) in
       ap encode (sym (k .1)) ∙ triple-is (sym e) (sym (eqb-true _ _ (z .0))) (sym (eqb-true _ _ (z .1)))
-  by-op (suc (suc (suc (suc (suc op))))) e = absurd (apart w (sym (decode-other b actions line t (omega arith) ∙ h)))
+  by-op (suc (suc (suc (suc (suc op))))) e = absurd (apart w (sym h ∙ spelled-other t (omega arith)))
+
+  pub encode-spelled : encode w ≡ t
+  encode-spelled = by-op (t .op) refl
+
+where-spelled : (b : Bounds) (actions : ℕ) (line : Line) (d : Decoded) (w : Instruction) → whereAllowed b actions line d ≡ Is w → d ≡ Is w
+unfolding whereAllowed
+where-spelled b actions line (Is v) w h = keep-is (allowed b actions line v) (Is v) w h .1
+where-spelled b actions line Nothing w h = h
+
+-- an instruction that was decoded on a line is what the line's bytes spell, and has these bytes
+module _ (b : Bounds) (actions : ℕ) (line : Line) (t : Triple) (w : Instruction) (h : decode b actions line t ≡ Is w) where
+  pub decode-spelled : spelled t ≡ Is w
+  unfolding decode
+  decode-spelled = where-spelled b actions line (spelled t) w h
 
   pub encode-decode : encode w ≡ t
-  encode-decode = by-op (t .op) refl
+  encode-decode = encode-spelled t w decode-spelled
 
 -- an instruction is allowed on no line above the last
 pub allowed-line : (b : Bounds) (actions : ℕ) (line : Line) (w : Instruction) → allowed b actions line w ≡ true → line .0 ≤ b .last

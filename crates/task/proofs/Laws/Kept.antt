@@ -1,12 +1,13 @@
 -- What each turn of a task's reading keeps, its answer has. The property is to be shown of each kind's turn alone, with what questions 1 to
--- 3 say of a record of this kind: after which sections it may stand, where its body and the next record begin, and how long it is. For
--- question 3's test and the turn are chosen by the same kind.
+-- 3 say of a record of this kind: after which sections it may stand, where its body and the next record begin, how long it is, and of an
+-- action and a case that it ends in the file. For question 3's test and the turn are chosen by the same kind.
 -- Assumes nothing.
 use Prim.Native.Nat.{ℕ, _+_, _%_, _≤_}
 use mathlib.Core.Path.{_≡_, refl}
 use mathlib.Core.Bool.{Bool, true, false, cond}
 use mathlib.Core.List.{List}
 use native.Mathlib.Omega.{arith}
+use lib.ListN.{length}
 use lib.Dec.{leb, eqb}
 use borrow.Author.Tests.{leb-true, eqb-true, eqb-false}
 use Rattle.records.specs.Loop.{Turn}
@@ -59,9 +60,10 @@ pub record Kinds (P : State → Type 0) (Q : Reading → Type 0) (bytes : List �
   pub refusal : (question : ℕ) → Q (refused question (s .progress .at))
   pub header : Follows (s .progress .section) 1 → Keeps P Q (headerTurn bytes s (s .progress .at + 4) (s .progress .at + 10))
   pub action : (size : ℕ) → Follows (s .progress .section) 2 → size ≡ u16At bytes (s .progress .at) → size ≤ 272 → size % 32 ≡ 16
-      → Keeps P Q (actionTurn bytes s (s .progress .at + 4) size (s .progress .at + (4 + size)))
+      → s .progress .at + (4 + size) ≤ length bytes → Keeps P Q (actionTurn bytes s (s .progress .at + 4) size (s .progress .at + (4 + size)))
   pub preset : Follows (s .progress .section) 3 → Keeps P Q (presetTurn bytes s (s .progress .at + 4) (s .progress .at + 9))
-  pub case : Follows (s .progress .section) 4 → Keeps P Q (caseTurn bytes s (s .progress .at + 4) (s .progress .at + 28))
+  pub case : Follows (s .progress .section) 4 → s .progress .at + 28 ≤ length bytes
+      → Keeps P Q (caseTurn bytes s (s .progress .at + 4) (s .progress .at + 28))
   pub close : Follows (s .progress .section) 5 → Keeps P Q (closeTurn bytes s (s .progress .at + 4))
 
 module _ (P : State → Type 0) (Q : Reading → Type 0) where
@@ -96,9 +98,9 @@ module _ (P : State → Type 0) (Q : Reading → Type 0) where
         let n : (m : ℕ) → size ≡ m → next ≡ s .progress .at + (4 + m) = omega arith in
         kind-keeps kind size _ _ _ _ _ (f .known) l
         (λ i z. rw (b, n 6 z) (k .header (rw i at f)))
-        (λ i z m. rw (b, n size refl) (k .action size (rw i at f) (r .3) z m))
+        (λ i z m. rw (b, n size refl) (k .action size (rw i at f) (r .3) z m (omega arith)))
         (λ i z. rw (b, n 5 z) (k .preset (rw i at f)))
-        (λ i z. rw (b, n 24 z) (k .case (rw i at f)))
+        (λ i z. rw (b, n 24 z) (k .case (rw i at f) (omega arith)))
         (λ i z. rw (n 0 z) (k .close (rw i at f)))
 
     found-keeps : (s : State) → Kinds P Q bytes s → (f : Found) → recordAt bytes (s .progress .at) ≡ f → Keeps P Q (onRecord bytes s f)

@@ -1,5 +1,5 @@
--- What holds of a task that passes: its bounds are in range, its counts are what question 4 admits, with at least one case, and the pairs
--- and sets of its actions and cases, read where the task says that they stand, pass question 6. A turn that goes on has asked this of its
+-- What holds of a task that passes: its bounds are in range, its counts are what question 4 admits, with at least one case, its actions and
+-- cases, read where the task says that they stand, are all there, and their pairs and sets pass question 6. A turn that goes on has asked this of its
 -- record, so every state has it of what was read so far; and only the closing record, which follows a case, ends with a task that passes.
 -- Assumes nothing.
 use Prim.Native.Nat.{ℕ, _+_, _*_, _/_, _%_, _≤_, _<_}
@@ -43,6 +43,10 @@ pub record ActionSound (facts : ℕ) (bytes : List ℕ) (at : ℕ) : Type 0 wher
 abbrev pub CaseSound : ℕ → List ℕ → ℕ → ℕ → Type 0
 CaseSound facts bytes first c = (within facts (caseAt bytes first c .start) ≡ true) × (consistent facts (caseAt bytes first c .goal) ≡ true)
 
+-- an action whose record is all there: its head, its precondition and its effects
+abbrev pub ActionThere : List ℕ → ℕ → Type 0
+ActionThere bytes at = at + (20 + 32 * actionAt bytes at .effects) ≤ length bytes
+
 -- a task that passes
 pub record Passed (bytes : List ℕ) (t : Task) : Type 0 where
   pub bounded : inRange (t .index .bounds) ≡ true
@@ -52,6 +56,8 @@ pub record Passed (bytes : List ℕ) (t : Task) : Type 0 where
   pub presets : length (t .presets) ≡ 768
   pub action : (a : ℕ) → a < t .index .actions → ActionSound (t .index .bounds .facts) bytes (getD (t .offsets) a 0)
   pub case : (c : ℕ) → c < t .index .cases → CaseSound (t .index .bounds .facts) bytes (t .index .first) c
+  pub held : (a : ℕ) → a < t .index .actions → ActionThere bytes (getD (t .offsets) a 0)
+  pub cased : t .index .first + 28 * t .index .cases ≤ length bytes
 
 -- an action of 16 + 32 * e bytes has 1 + 2 * e pairs
 action-sound : (facts : ℕ) (bytes : List ℕ) (at size : ℕ) → size ≡ u16At bytes at → size % 32 ≡ 16
@@ -67,6 +73,10 @@ action-sound facts bytes at size e m h =
           let f : at + (44 + 32 * n) ≡ at + (36 + 32 * n) + 8 = omega arith in
           rw f (pair (2 + 2 * n) (omega arith) (at + (36 + 32 * n)) (omega arith));
     }
+
+action-there : (bytes : List ℕ) (at size : ℕ) → size ≡ u16At bytes at → size % 32 ≡ 16 → at + (4 + size) ≤ length bytes → ActionThere bytes at
+unfolding actionAt
+action-there bytes at size e m h = omega arith
 
 case-sound : (facts : ℕ) (bytes : List ℕ) (at first c : ℕ) → at ≡ first + 28 * c
     → (within facts (u64At bytes (at + 4)) && consistent facts (literalsAt bytes (at + 4 + 8))) ≡ true → CaseSound facts bytes first c
@@ -112,6 +122,8 @@ record Reached (bytes : List ℕ) (s : State) : Type 0 where
   bounded : 2 ≤ greatest (s .progress .section) → inRange (s .progress .index .bounds) ≡ true
   action : (a : ℕ) → a < s .progress .index .actions → ActionSound (s .progress .index .bounds .facts) bytes (getD (s .offsets) a 0)
   case : (c : ℕ) → c < s .progress .index .cases → CaseSound (s .progress .index .bounds .facts) bytes (s .progress .index .first) c
+  held : (a : ℕ) → a < s .progress .index .actions → ActionThere bytes (getD (s .offsets) a 0)
+  cased : s .progress .index .first + 28 * s .progress .index .cases ≤ length bytes
 
 module _ (bytes : List ℕ) where
   begin-reached : Reached bytes begin
@@ -122,6 +134,8 @@ module _ (bytes : List ℕ) where
         bounded = λ h. absurd (omega arith);
         action = λ a h. absurd (omega arith);
         case = λ c h. absurd (omega arith);
+        held = λ a h. absurd (omega arith);
+        cased = omega arith;
       }
 
   -- an answer that passes has a task that passes
@@ -150,12 +164,14 @@ module _ (bytes : List ℕ) where
           bounded = λ l. h;
           action = λ a l. absurd (omega arith);
           case = λ c l. absurd (omega arith);
+          held = λ a l. absurd (omega arith);
+          cased = omega arith;
         }
 
     action-kept : (size next : ℕ) → Follows (s .progress .section) 2 → size ≡ u16At bytes (s .progress .at) → size % 32 ≡ 16
-        → Kept (actionTurn bytes s (s .progress .at + 4) size next)
+        → s .progress .at + (4 + size) ≤ length bytes → Kept (actionTurn bytes s (s .progress .at + 4) size next)
     unfolding actionTurn
-    action-kept size next f e m =
+    action-kept size next f e m there =
         ask-kept _ _ _ _ λ h.
         ask-kept _ _ _ _ λ k.
         let n = s .progress .index .actions in
@@ -170,6 +186,11 @@ module _ (bytes : List ℕ) where
               (λ a l. rw (getD-set-other o n a (s .progress .at) 0 (omega arith)) (reached .action a l))
               (rw here (action-sound _ bytes (s .progress .at) size e m (eqb-true _ _ k)));
           case = reached .case;
+          held =
+              one-more (λ (a : ℕ). ActionThere bytes (getD (set o n (s .progress .at)) a 0)) n
+              (λ a l. rw (getD-set-other o n a (s .progress .at) 0 (omega arith)) (reached .held a l))
+              (rw here (action-there bytes (s .progress .at) size e m there));
+          cased = reached .cased;
         }
 
     on-preset-kept : (body next : ℕ) → Follows (s .progress .section) 3 → (d : Decoded) → Kept (onPreset bytes s body next d)
@@ -183,15 +204,17 @@ module _ (bytes : List ℕ) where
           bounded = λ l. reached .bounded (omega arith);
           action = reached .action;
           case = reached .case;
+          held = reached .held;
+          cased = reached .cased;
         }
 
     preset-kept : (body next : ℕ) → Follows (s .progress .section) 3 → Kept (presetTurn bytes s body next)
     unfolding presetTurn
     preset-kept body next f = on-preset-kept body next f _
 
-    case-kept : Follows (s .progress .section) 4 → Kept (caseTurn bytes s (s .progress .at + 4) (s .progress .at + 28))
+    case-kept : Follows (s .progress .section) 4 → s .progress .at + 28 ≤ length bytes → Kept (caseTurn bytes s (s .progress .at + 4) (s .progress .at + 28))
     unfolding caseTurn
-    case-kept f =
+    case-kept f there =
         ask-kept _ _ _ _ λ h.
         ask-kept _ _ _ _ λ k.
         let n = s .progress .index .cases in
@@ -205,6 +228,8 @@ module _ (bytes : List ℕ) where
               one-more (CaseSound (s .progress .index .bounds .facts) bytes (noted (s .progress .at) (s .progress .index .first) n)) n
               (λ c l. rw (noted-kept (s .progress .at) (s .progress .index .first) n (omega arith)) (reached .case c l))
               (case-sound _ bytes (s .progress .at) _ n behind k);
+          held = reached .held;
+          cased = omega (arith, behind);
         }
 
     close-kept : (next : ℕ) → Follows (s .progress .section) 5 → Kept (closeTurn bytes s next)
@@ -219,6 +244,8 @@ module _ (bytes : List ℕ) where
           presets = reached .counted .presets;
           action = reached .action;
           case = reached .case;
+          held = reached .held;
+          cased = reached .cased;
         }
 
     kinds-kept : Kinds (Reached bytes) Sound bytes s
@@ -226,7 +253,7 @@ module _ (bytes : List ℕ) where
         record {
           refusal = λ question. refused-sound question _;
           header = λ f. header-kept _ _;
-          action = λ size f e l m. action-kept size _ f e m;
+          action = λ size f e l m there. action-kept size _ f e m there;
           preset = λ f. preset-kept _ _ f;
           case = case-kept;
           close = λ f. close-kept _ f;

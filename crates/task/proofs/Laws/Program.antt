@@ -1,26 +1,32 @@
--- A program's verdict, question by question, and what a program that passes has; and the number of a line in its procedure, as the lines are counted through all
--- procedures: it grows by one, or starts again at 0.
+-- A program's verdict, question by question, and what a program that passes has; the number of a line in its procedure, as the lines are counted through all
+-- procedures: it grows by one, or starts again at 0; and the instruction on a line that has one, told by its op alone.
 -- Assumes nothing.
 use Prim.Native.Nat.{ℕ, _+_, _*_, _/_, _%_, _≤_, _<_}
 use mathlib.Core.List.{List}
 use lib.ListN.{length}
-use mathlib.Core.Bool.{Bool, true, false, cond, _||_}
+use mathlib.Core.Bool.{Bool, true, false, false≢true, cond}
 use lib.Dec.{eqb, ltb}
 use borrow.Author.Tests.{lt-ltb, le-ltb, ltb-false, eq-eqb, ne-eqb, eqb-true}
 use mathlib.Core.Path.{_≡_, refl, sym, ap, _∙_}
-use native.Mathlib.Nat.{mod-lt, mod-add-mod, mod-eq-of-lt, mod-self, div-add-mod'}
+use native.Mathlib.Decide.{ℕ-discrete}
+use native.Mathlib.Nat.{mod-lt, mod-add-mod, mod-eq-of-lt, mod-self, div-add-mod', mul-le-mul-right, mul-add-mod-self-right}
 use native.Mathlib.Omega.{arith}
+use Rattle.records.specs.Numbers.{byteAt}
 use Rattle.task.proofs.Laws.First.{found-most, all-found, found-all}
 use Rattle.task.proofs.Laws.Verdict.{refused-accepted}
 use Rattle.task.specs.Bounds.{lineCount, programSize}
 use Rattle.task.specs.First.{firstNo}
-use Rattle.task.specs.Instruction.{decode, tripleAt}
-use Rattle.task.specs.Program.{isInstruction, lineAllowed, lineOffset, sameTriple, presetHeld, everyLine, programVerdict}
+use Rattle.task.specs.Instruction.{keep, spelled, allowed, whereAllowed, decode, tripleAt}
+use Rattle.task.specs.Program.{instructionOn, isInstruction, lineAllowed, lineOffset, sameTriple, presetHeld, everyLine, programVerdict}
 use Rattle.task.specs.Questions.{PROGRAM-LENGTH, PROGRAM-LINES, PROGRAM-PRESETS}
 use Rattle.task.specs.declared.bounds.Bounds.{Bounds}
 use Rattle.task.specs.declared.index.Index.{Index}
+use Rattle.task.specs.declared.instruction.Line.{Line}
+use Rattle.task.specs.declared.instruction.Proc.{Proc}
 use Rattle.task.specs.declared.instruction.Triple.{Triple}
+use Rattle.task.specs.declared.instruction.Instruction.{Instruction}
 use Rattle.task.specs.declared.instruction.Decoded.{Decoded}
+use Rattle.task.specs.declared.instruction.Decoded.the-variants.{Is, Nothing}
 use Rattle.task.specs.declared.verdict.Verdict.{Verdict}
 use Rattle.task.specs.declared.verdict.Verdict.the-variants.{Accepted, Refused}
 
@@ -74,10 +80,17 @@ pub line-test : (i : Index) (program : List ℕ) (k line : ℕ) (w : Triple) (d 
 unfolding lineAllowed
 line-test i program k line w d r t e f g h j = rw (← f, ← e) (rw (← g) (sym h ∙ j))
 
-pub preset-test : (presets program : List ℕ) (k : ℕ) (v w : Triple) (same : Bool) → v ≡ tripleAt presets (3 * k) → w ≡ tripleAt program (3 * k)
-    → same ≡ sameTriple v w → (eqb (v .op) 0 || same) ≡ presetHeld presets program k
-unfolding presetHeld
-preset-test presets program k v w same e f g = rw (← e, ← f) (rw g refl)
+module _ (presets program : List ℕ) (k op : ℕ) (e : op ≡ byteAt presets (3 * k)) where
+  pub preset-none : op ≡ 0 → true ≡ presetHeld presets program k
+  unfolding presetHeld tripleAt
+  preset-none h = simp (eq-eqb _ _ (sym e ∙ h))
+
+  pub preset-test : (op ≡ 0 → ⊥) → (v w : Triple) (same : Bool) → v ≡ tripleAt presets (3 * k) → w ≡ tripleAt program (3 * k)
+      → same ≡ sameTriple v w → same ≡ presetHeld presets program k
+  unfolding presetHeld tripleAt
+  preset-test n v w same f g h =
+      let z : eqb (byteAt presets (3 * k)) 0 ≡ false = ne-eqb _ _ (λ (d : byteAt presets (3 * k) ≡ 0). n (e ∙ d)) in
+      simp z (cc)
 
 -- line number k, counted through all procedures, is line k % (n + 1) of procedure k / (n + 1), and begins at 3 * k
 pub line-offset : (b : Bounds) (k : ℕ) → lineOffset b (record { 0 = k / (b .last + 1) }) (record { 0 = k % (b .last + 1) }) ≡ 3 * k
@@ -128,3 +141,55 @@ module _ (i : Index) (presets program : List ℕ) where
       let lines = all-found (lineAllowed i program) n (p .lines) in
       let held = all-found (presetHeld presets program) n (p .held) in
       program-good i presets program n refl (p .size) _ refl (omega (arith, lines)) _ refl (omega (arith, held))
+
+-- a line of a program that passes has its three bytes, and an instruction that is allowed there
+module _ (i : Index) (presets program : List ℕ) (p : Passes i presets program) (procedure : Proc) (line : Line)
+    (h : procedure .0 < i .bounds .procedures) (l : line .0 ≤ i .bounds .last) where
+  abbrev number : ℕ
+  number = procedure .0 * (i .bounds .last + 1) + line .0
+
+  below : number < lineCount (i .bounds)
+  unfolding lineCount
+  below = omega (arith, mul-le-mul-right (i .bounds .last + 1) h)
+
+  pub line-there : lineOffset (i .bounds) procedure line + 3 ≤ length program
+  unfolding lineOffset
+  line-there = omega (arith, below, p .size)
+
+  pub line-passes : isInstruction (instructionOn i program procedure line) ≡ true
+  unfolding instructionOn lineOffset lineAllowed
+  line-passes =
+      let e : number % (i .bounds .last + 1) ≡ line .0 =
+      mul-add-mod-self-right (procedure .0) (i .bounds .last + 1) (line .0) ∙ mod-eq-of-lt (omega arith) in
+      rw e at (p .lines number below)
+
+-- three bytes that decode spell an instruction, and it is the one that they decode to
+decoded-spelled : (b : Bounds) (actions : ℕ) (line : Line) (w : Triple) → isInstruction (decode b actions line w) ≡ true
+    → (isInstruction (spelled w) ≡ true) × ((v : Instruction) → spelled w ≡ Is v → decode b actions line w ≡ Is v)
+unfolding decode whereAllowed keep isInstruction
+decoded-spelled b actions line w h = by (spelled w) h
+  where
+    kept : (ok : Bool) (v : Instruction) → isInstruction (keep ok (Is v)) ≡ true → keep ok (Is v) ≡ Is v
+    kept true v is = refl
+    kept false v is = absurd (false≢true is)
+
+    by : (d : Decoded) → isInstruction (whereAllowed b actions line d) ≡ true
+        → (isInstruction d ≡ true) × ((v : Instruction) → d ≡ Is v → whereAllowed b actions line d ≡ Is v)
+    by (Is v) is = (refl, λ u e. kept (allowed b actions line v) v is ∙ e)
+    by Nothing is = absurd (false≢true is)
+
+-- the instruction on a line that has one is the one that its bytes `w` spell
+module _ (i : Index) (program : List ℕ) (procedure : Proc) (line : Line) (is : isInstruction (instructionOn i program procedure line) ≡ true)
+    (at : ℕ) (w : Triple) (e : at ≡ lineOffset (i .bounds) procedure line) (f : w ≡ tripleAt program at) where
+  decoded : instructionOn i program procedure line ≡ decode (i .bounds) (i .actions) line w
+  unfolding instructionOn
+  decoded = rw (f, e)
+
+  spells : (isInstruction (spelled w) ≡ true) × ((v : Instruction) → spelled w ≡ Is v → decode (i .bounds) (i .actions) line w ≡ Is v)
+  spells = decoded-spelled (i .bounds) (i .actions) line w (sym (ap isInstruction decoded) ∙ is)
+
+  pub line-spells : isInstruction (spelled w) ≡ true
+  line-spells = spells .0
+
+  pub line-spelled : (v : Instruction) → spelled w ≡ Is v → instructionOn i program procedure line ≡ Is v
+  line-spelled v k = decoded ∙ spells .1 v k

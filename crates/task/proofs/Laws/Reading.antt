@@ -9,11 +9,12 @@ use lib.ListN.{length, set}
 use lib.Dec.{eqb, ltb}
 use borrow.Author.Tests.{lt-ltb, le-ltb, eq-eqb, ne-eqb, eqb-true}
 use Rattle.records.specs.Loop.{Turn}
-use Rattle.records.specs.Numbers.{byteAt, u64At}
+use Rattle.records.specs.Numbers.{byteAt, eightAt, u64At}
 use Rattle.records.specs.Record.{recordAt}
 use Rattle.records.specs.declared.record.Found.{Found}
 use Rattle.records.specs.declared.record.Found.the-variants.{Record, Missing}
 use Rattle.records.proofs.Laws.Loop.{ask-yes, ask-no}
+use Rattle.records.proofs.Laws.Numbers.{u64-there}
 use Rattle.records.proofs.Laws.Record.{record-ends}
 use Rattle.task.specs.Bounds.{boundsAt, inRange}
 use Rattle.task.specs.Facts.{literalsAt, within, consistent, pairsBeforeFault}
@@ -115,14 +116,17 @@ module _ (bytes : List ℕ) (p : Progress) (body next : ℕ) (o q : List ℕ) wh
   unfolding turned caseTurn
   case-full h = ask-no _ _ _ (le-ltb (p .index .cases) 32 h)
 
-  module _ (h : p .index .cases < 32) (set : ℕ) (goal : Literals) (i c : Bool) (e₁ : set ≡ u64At bytes body) (e₂ : goal ≡ literalsAt bytes (body + 8))
+  module _ (h : p .index .cases < 32) (set : ℕ) (goal : Literals) (i c : Bool) (there : body + 24 ≤ length bytes) (e₁ : set ≡ eightAt bytes body) (e₂ : goal ≡ literalsAt bytes (body + 8))
       (e₃ : i ≡ within (p .index .bounds .facts) set) (e₄ : c ≡ consistent (p .index .bounds .facts) goal) where
     few : ltb (p .index .cases) 32 ≡ true
     few = lt-ltb (p .index .cases) 32 h
 
+    start : set ≡ u64At bytes body
+    start = u64-there bytes body set e₁ (omega arith)
+
     pub case-no : (i && c) ≡ false → turned (p .index) (Refused SETS (p .at)) o q ≡ caseTurn bytes (state p o q) body next
     unfolding turned caseTurn
-    case-no n = ask-no _ _ _ (cc) ∙ ask-yes _ _ _ few
+    case-no n = ask-no _ _ _ (cc start) ∙ ask-yes _ _ _ few
 
     pub case-yes : (first : ℕ) → first ≡ cond (eqb (p .index .cases) 0) (p .at) (p .index .first) → (i && c) ≡ true
         → turned (p .index)
@@ -130,7 +134,7 @@ module _ (bytes : List ℕ) (p : Progress) (body next : ℕ) (o q : List ℕ) wh
         o q
         ≡ caseTurn bytes (state p o q) body next
     unfolding turned caseTurn
-    case-yes first f y = rw f (ask-yes _ _ _ (cc) ∙ ask-yes _ _ _ few)
+    case-yes first f y = rw f (ask-yes _ _ _ (cc start) ∙ ask-yes _ _ _ few)
 
 -- a body in the file, of the length that question 3 asks of its kind
 module _ (kind body size end : ℕ) (there : body + size ≤ end) (fit : lengthFits kind size ≡ true) where

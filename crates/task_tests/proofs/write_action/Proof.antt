@@ -1,6 +1,7 @@
--- `task_tests::write_action` is safe and ends: the effects are counted up.
+-- `task_tests::write_action` is safe and ends: the action is there, and its effects are counted up.
 -- Assumes nothing.
 use borrow.Author.Needs.{needs}
+use borrow.Author.Tests.{not-false}
 use Prim.Native.Nat.{_-_}
 use Rattle.task_tests.proofs.write_action.Statement.{statement}
 use Rattle.task_tests.proofs.write_action.Tie as tie
@@ -11,8 +12,14 @@ Inv-loop bytes at effects e₀ t8 e = Unit
 abbrev μ-loop : tie.MeasureT-loop
 μ-loop bytes at effects e₀ t8 e = effects - e
 
+there-requires : tie.Need-there-requires Inv-loop μ-loop
+there-requires c κs = search needs
+
+returns : tie.Need-returns Inv-loop μ-loop
+returns c = search needs
+
 action-at-requires : tie.Need-action-at-requires Inv-loop μ-loop
-action-at-requires c κs = search needs
+action-at-requires c κs = c .before .there .ensures (not-false _ (c .if1 .left))
 
 slice-aggregate-write-number : tie.Need-slice-aggregate-write-number Inv-loop μ-loop
 slice-aggregate-write-number c = search needs
@@ -50,8 +57,8 @@ slice-aggregate-write-2 c = search needs
 write-requires-2 : tie.Need-write-requires-2 Inv-loop μ-loop
 write-requires-2 c κs = search needs
 
-returns : tie.Need-returns Inv-loop μ-loop
-returns c = search needs
+returns-2 : tie.Need-returns-2 Inv-loop μ-loop
+returns-2 c = search needs
 
 pub write-action-spec : {M : Type 1} → statement M
 write-action-spec =
@@ -59,6 +66,8 @@ write-action-spec =
     (tie.spec
     Inv-loop
     μ-loop
+    there-requires
+    returns
     action-at-requires
     slice-aggregate-write-number
     write-number-requires
@@ -72,4 +81,4 @@ write-action-spec =
     loop-again
     slice-aggregate-write-2
     write-requires-2
-    returns)
+    returns-2)

@@ -1,6 +1,9 @@
 -- `task::bounds::bounds_at` meets its contract: each byte is the one that the definition names.
 -- Assumes nothing.
+use Prim.Native.Nat.{_+_}
 use borrow.Author.Needs.{needs}
+use native.Mathlib.Omega.{arith}
+use Rattle.records.proofs.Laws.Numbers.{u16-there}
 use Rattle.task.specs.Bounds.{boundsAt}
 use Rattle.task.proofs.bounds.bounds_at.Statement.{statement}
 use Rattle.task.proofs.bounds.bounds_at.Tie as tie
@@ -26,15 +29,17 @@ add-t11 c = search needs
 shared-slice-read-t13 : tie.Need-shared-slice-read-t13
 shared-slice-read-t13 c = search needs
 
-add-u16-at : tie.Need-add-u16-at
-add-u16-at c = search needs
+add-two-at : tie.Need-add-two-at
+add-two-at c = search needs
 
-u16-at-requires : tie.Need-u16-at-requires
-u16-at-requires c κs = tt
+two-at-requires : tie.Need-two-at-requires
+two-at-requires c κs = search needs
 
 returns : tie.Need-returns
 unfolding boundsAt
-returns c = rw (c .u16-at .ensures)
+returns c =
+    let a = c .before .before .before .before .before .before .args in
+    rw (u16-there (a .bytes .now) (a .at + 4) _ (c .two-at .ensures) (omega arith))
 
 pub bounds-at-spec : {M : Type 1} → statement M
 bounds-at-spec =
@@ -47,6 +52,6 @@ bounds-at-spec =
     shared-slice-read-t10
     add-t11
     shared-slice-read-t13
-    add-u16-at
-    u16-at-requires
+    add-two-at
+    two-at-requires
     returns)

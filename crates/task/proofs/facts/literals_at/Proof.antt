@@ -1,28 +1,30 @@
--- `task::facts::literals_at` meets its contract: past the end both sets read as 0.
+-- `task::facts::literals_at` meets its contract: both sets are there.
 -- Assumes nothing.
+use Prim.Native.Nat.{_+_}
 use borrow.Author.Needs.{needs}
 use native.Mathlib.Omega.{arith}
+use Rattle.records.proofs.Laws.Numbers.{u64-there}
 use Rattle.task.specs.Facts.{literalsAt}
-use Rattle.task.proofs.Laws.Facts.{literals-missing}
 use Rattle.task.proofs.facts.literals_at.Statement.{statement}
 use Rattle.task.proofs.facts.literals_at.Tie as tie
 
+eight-at-requires : tie.Need-eight-at-requires
+eight-at-requires c κs = search needs
+
+add-eight-at : tie.Need-add-eight-at
+add-eight-at c = search needs
+
+eight-at-requires-2 : tie.Need-eight-at-requires-2
+eight-at-requires-2 c κs = search needs
+
 returns : tie.Need-returns
-returns c = literals-missing _ _ (omega arith)
-
-u64-at-requires : tie.Need-u64-at-requires
-u64-at-requires c κs = tt
-
-add-u64-at : tie.Need-add-u64-at
-add-u64-at c = search needs
-
-u64-at-requires-2 : tie.Need-u64-at-requires-2
-u64-at-requires-2 c κs = tt
-
-returns-2 : tie.Need-returns-2
 unfolding literalsAt
-returns-2 c = λ i. record { positive = c .before .u64-at .ensures i; negative = c .u64-at2 .ensures i }
+returns c =
+    let a = c .before .before .before .args in
+    let positive = u64-there (a .bytes .now) (a .at) _ (c .before .eight-at .ensures) (omega arith) in
+    let negative = u64-there (a .bytes .now) (a .at + 8) _ (c .eight-at2 .ensures) (omega arith) in
+    λ i. record { positive = positive i; negative = negative i }
 
 pub literals-at-spec : {M : Type 1} → statement M
 literals-at-spec =
-    tie.close (tie.spec returns u64-at-requires add-u64-at u64-at-requires-2 returns-2)
+    tie.close (tie.spec eight-at-requires add-eight-at eight-at-requires-2 returns)

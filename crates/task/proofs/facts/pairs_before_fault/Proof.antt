@@ -9,10 +9,13 @@ use Rattle.task.proofs.facts.pairs_before_fault.Statement.{statement}
 use Rattle.task.proofs.facts.pairs_before_fault.Tie as tie
 
 abbrev Inv-loop : tie.InvT-loop
-Inv-loop bytes at count facts k₀ k = Searching (pairConsistent facts bytes at) count k
+Inv-loop bytes at count facts most k₀ k = Searching (pairConsistent facts bytes at) count k
 
 abbrev μ-loop : tie.MeasureT-loop
-μ-loop bytes at count facts k₀ k = count - k
+μ-loop bytes at count facts most k₀ k = count - k
+
+most-requires : tie.Need-most-requires Inv-loop μ-loop
+most-requires c κs = tt
 
 loop-holds : tie.Need-loop-holds Inv-loop μ-loop
 loop-holds c = searching _ _
@@ -24,10 +27,10 @@ add-literals-at : tie.Need-add-literals-at Inv-loop μ-loop
 add-literals-at c = search needs
 
 literals-at-requires : tie.Need-literals-at-requires Inv-loop μ-loop
-literals-at-requires c κs = tt
+literals-at-requires c κs = search needs
 
-consistent-requires : tie.Need-consistent-requires Inv-loop μ-loop
-consistent-requires c κs = tt
+consistent-to-requires : tie.Need-consistent-to-requires Inv-loop μ-loop
+consistent-to-requires c κs = tt
 
 add-k : tie.Need-add-k Inv-loop μ-loop
 add-k c = search needs
@@ -42,7 +45,7 @@ loop-again c =
     let at-loop-test = at-literals-at .before in
     let at-loop = at-loop-test .before in
     found-yes _ _ _ (at-loop .loop .inv) (at-loop-test .loop-test .taken)
-    (pair-test _ _ _ _ _ _ _ (at-literals-at .literals-at .ensures) (at-consistent .consistent .ensures) (c .if1 .taken))
+    (pair-test _ _ _ _ _ _ _ (at-literals-at .literals-at .ensures) (at-consistent .consistent-to .ensures _ (at-loop .before .most .ensures)) (c .if1 .taken))
 
 returns : tie.Need-returns Inv-loop μ-loop
 unfolding pairsBeforeFault
@@ -52,7 +55,7 @@ returns c =
     let at-loop-test = at-literals-at .before in
     let at-loop = at-loop-test .before in
     found-no _ _ _ (at-loop .loop .inv) (at-loop-test .loop-test .taken)
-    (pair-test _ _ _ _ _ _ _ (at-literals-at .literals-at .ensures) (at-consistent .consistent .ensures) (c .if1 .left))
+    (pair-test _ _ _ _ _ _ _ (at-literals-at .literals-at .ensures) (at-consistent .consistent-to .ensures _ (at-loop .before .most .ensures)) (c .if1 .left))
 
 returns-2 : tie.Need-returns-2 Inv-loop μ-loop
 unfolding pairsBeforeFault
@@ -64,11 +67,12 @@ pairs-before-fault-spec =
     (tie.spec
     Inv-loop
     μ-loop
+    most-requires
     loop-holds
     mul-literals-at
     add-literals-at
     literals-at-requires
-    consistent-requires
+    consistent-to-requires
     add-k
     loop-less
     loop-again

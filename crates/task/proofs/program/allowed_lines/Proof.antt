@@ -28,11 +28,11 @@ cast-count c = search needs
 loop-holds : tie.Need-loop-holds Inv-loop μ-loop
 loop-holds c = (searching _ _, sym (mod-eq-of-lt (omega arith)))
 
-mul-triple-at : tie.Need-mul-triple-at Inv-loop μ-loop
-mul-triple-at c = search needs
+mul-three-at : tie.Need-mul-three-at Inv-loop μ-loop
+mul-three-at c = search needs
 
-triple-at-requires : tie.Need-triple-at-requires Inv-loop μ-loop
-triple-at-requires c κs = tt
+three-at-requires : tie.Need-three-at-requires Inv-loop μ-loop
+three-at-requires c κs = search needs
 
 decode-requires : tie.Need-decode-requires Inv-loop μ-loop
 decode-requires c κs = tt
@@ -54,11 +54,11 @@ loop-again c =
     let at-if1 = c .before in
     let at-is-instruction = at-if1 .before in
     let at-decode = at-is-instruction .before in
-    let at-triple-at = at-decode .before in
-    let at-loop-test = at-triple-at .before in
+    let at-three-at = at-decode .before in
+    let at-loop-test = at-three-at .before in
     let at-loop = at-loop-test .before in (
       found-yes _ _ _ (at-loop .loop .inv .0) (at-loop-test .loop-test .taken)
-          (line-test _ _ _ _ _ _ _ _ (at-loop .loop .inv .1) (at-triple-at .triple-at .ensures) (at-decode .decode .ensures) (at-is-instruction .is-instruction .ensures) (at-if1 .if1 .taken)),
+          (line-test _ _ _ _ _ _ _ _ (at-loop .loop .inv .1) (at-three-at .three-at .ensures) (at-decode .decode .ensures) (at-is-instruction .is-instruction .ensures) (at-if1 .if1 .taken)),
       line-next _ _ _ (at-loop .loop .inv .1) (c .if2 .taken),
     )
 
@@ -70,11 +70,11 @@ loop-again-2 c =
     let at-if1 = c .before in
     let at-is-instruction = at-if1 .before in
     let at-decode = at-is-instruction .before in
-    let at-triple-at = at-decode .before in
-    let at-loop-test = at-triple-at .before in
+    let at-three-at = at-decode .before in
+    let at-loop-test = at-three-at .before in
     let at-loop = at-loop-test .before in (
       found-yes _ _ _ (at-loop .loop .inv .0) (at-loop-test .loop-test .taken)
-          (line-test _ _ _ _ _ _ _ _ (at-loop .loop .inv .1) (at-triple-at .triple-at .ensures) (at-decode .decode .ensures) (at-is-instruction .is-instruction .ensures) (at-if1 .if1 .taken)),
+          (line-test _ _ _ _ _ _ _ _ (at-loop .loop .inv .1) (at-three-at .three-at .ensures) (at-decode .decode .ensures) (at-is-instruction .is-instruction .ensures) (at-if1 .if1 .taken)),
       line-again _ _ _ (at-loop .loop .inv .1) (c .if2 .left),
     )
 
@@ -82,12 +82,12 @@ returns : tie.Need-returns Inv-loop μ-loop
 returns c =
     let at-is-instruction = c .before in
     let at-decode = at-is-instruction .before in
-    let at-triple-at = at-decode .before in
-    let at-loop-test = at-triple-at .before in
+    let at-three-at = at-decode .before in
+    let at-loop-test = at-three-at .before in
     let at-loop = at-loop-test .before in
     let at-line-count = at-loop .before in
     found-no _ _ _ (at-loop .loop .inv .0) (at-loop-test .loop-test .taken) (line-test _ _ _ _ _ _ _ _ (at-loop .loop .inv .1)
-    (at-triple-at .triple-at .ensures) (at-decode .decode .ensures) (at-is-instruction .is-instruction .ensures) (c .if1 .left))
+    (at-three-at .three-at .ensures) (at-decode .decode .ensures) (at-is-instruction .is-instruction .ensures) (c .if1 .left))
     ∙ ap (firstNo _) (at-line-count .line-count .ensures)
 
 returns-2 : tie.Need-returns-2 Inv-loop μ-loop
@@ -102,8 +102,8 @@ allowed-lines-spec =
     line-count-requires
     cast-count
     loop-holds
-    mul-triple-at
-    triple-at-requires
+    mul-three-at
+    three-at-requires
     decode-requires
     is-instruction-requires
     add-k

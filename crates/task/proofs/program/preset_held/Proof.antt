@@ -1,38 +1,44 @@
--- `task::program::preset_held` meets its contract: both lines are read where the definition says, and compared.
+-- `task::program::preset_held` meets its contract: a line whose preset's op is 0 is not preset, and any other is compared with its preset.
 -- Assumes nothing.
 use borrow.Author.Needs.{needs}
-use Rattle.task.proofs.Laws.Program.{preset-test}
+use Rattle.task.proofs.Laws.Program.{preset-none, preset-test}
 use Rattle.task.proofs.program.preset_held.Statement.{statement}
 use Rattle.task.proofs.program.preset_held.Tie as tie
 
-mul-triple-at : tie.Need-mul-triple-at
-mul-triple-at c = search needs
+mul-at : tie.Need-mul-at
+mul-at c = search needs
 
-triple-at-requires : tie.Need-triple-at-requires
-triple-at-requires c κs = tt
-
-mul-triple-at-2 : tie.Need-mul-triple-at-2
-mul-triple-at-2 c = search needs
-
-triple-at-requires-2 : tie.Need-triple-at-requires-2
-triple-at-requires-2 c κs = tt
-
-same-triple-requires : tie.Need-same-triple-requires
-same-triple-requires c κs = tt
+byte-at-requires : tie.Need-byte-at-requires
+byte-at-requires c κs = search needs
 
 returns : tie.Need-returns
-returns c =
-    let at-triple-at2 = c .before .before in
-    let at-triple-at = at-triple-at2 .before in
-    preset-test _ _ _ _ _ _ (at-triple-at .triple-at .ensures) (at-triple-at2 .triple-at2 .ensures) (c .same-triple .ensures)
+returns c = preset-none _ _ _ _ (c .before .byte-at .ensures) (c .if1 .taken)
+
+triple-at-requires : tie.Need-triple-at-requires
+triple-at-requires c κs = search needs
+
+three-at-requires : tie.Need-three-at-requires
+three-at-requires c κs = search needs
+
+same-triple-requires : tie.Need-same-triple-requires
+same-triple-requires c κs = search needs
+
+returns-2 : tie.Need-returns-2
+returns-2 c =
+    let at-three-at = c .before in
+    let at-triple-at = at-three-at .before in
+    let at-if1 = at-triple-at .before in
+    preset-test _ _ _ _ (at-if1 .before .byte-at .ensures) (at-if1 .if1 .left) _ _ _ (at-triple-at .triple-at .ensures)
+    (at-three-at .three-at .ensures) (c .same-triple .ensures)
 
 pub preset-held-spec : {M : Type 1} → statement M
 preset-held-spec =
     tie.close
     (tie.spec
-    mul-triple-at
+    mul-at
+    byte-at-requires
+    returns
     triple-at-requires
-    mul-triple-at-2
-    triple-at-requires-2
+    three-at-requires
     same-triple-requires
-    returns)
+    returns-2)

@@ -9,8 +9,8 @@ use Rattle.task.proofs.reading.read_case.Tie as tie
 returns : tie.Need-returns
 returns c = λ o q. case-full _ _ _ _ o q (omega arith)
 
-u64-at-requires : tie.Need-u64-at-requires
-u64-at-requires c κs = tt
+eight-at-requires : tie.Need-eight-at-requires
+eight-at-requires c κs = search needs
 
 within-requires : tie.Need-within-requires
 within-requires c κs = tt
@@ -19,7 +19,7 @@ add-literals-at : tie.Need-add-literals-at
 add-literals-at c = search needs
 
 literals-at-requires : tie.Need-literals-at-requires
-literals-at-requires c κs = tt
+literals-at-requires c κs = search needs
 
 consistent-requires : tie.Need-consistent-requires
 consistent-requires c κs = tt
@@ -36,8 +36,9 @@ returns-2 c =
     let at-consistent = at-if2 .before in
     let at-literals-at = at-consistent .before in
     let at-within = at-literals-at .before in
-    let at-u64-at = at-within .before in
-    λ o q. case-yes _ _ _ _ o q (omega arith) _ _ _ _ (at-u64-at .u64-at .ensures) (at-literals-at .literals-at .ensures)
+    let at-eight-at = at-within .before in
+    let at-start = at-eight-at .before .before .before .before .before .before in
+    λ o q. case-yes _ _ _ _ o q (omega arith) _ _ _ _ (at-start .pre) (at-eight-at .eight-at .ensures) (at-literals-at .literals-at .ensures)
     (at-within .within .ensures) (at-consistent .consistent .ensures) _ (c .first-case .ensures) (at-if2 .if2 .taken)
 
 returns-3 : tie.Need-returns-3
@@ -45,8 +46,9 @@ returns-3 c =
     let at-consistent = c .before in
     let at-literals-at = at-consistent .before in
     let at-within = at-literals-at .before in
-    let at-u64-at = at-within .before in
-    λ o q. case-no _ _ _ _ o q (omega arith) _ _ _ _ (at-u64-at .u64-at .ensures) (at-literals-at .literals-at .ensures)
+    let at-eight-at = at-within .before in
+    let at-start = at-eight-at .before .before .before .before .before .before in
+    λ o q. case-no _ _ _ _ o q (omega arith) _ _ _ _ (at-start .pre) (at-eight-at .eight-at .ensures) (at-literals-at .literals-at .ensures)
     (at-within .within .ensures) (at-consistent .consistent .ensures) (c .if2 .left)
 
 pub read-case-spec : {M : Type 1} → statement M
@@ -54,7 +56,7 @@ read-case-spec =
     tie.close
     (tie.spec
     returns
-    u64-at-requires
+    eight-at-requires
     within-requires
     add-literals-at
     literals-at-requires
