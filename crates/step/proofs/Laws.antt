@@ -3,8 +3,10 @@
 pub mod Answers
 pub mod Effects
 pub mod Facts
+pub mod Head
 pub mod Kept
 pub mod Lent
+pub mod Moved
 pub mod Perform
 pub mod Possible
 pub mod Ready

@@ -1,5 +1,7 @@
 pub mod Effects
 pub mod Facts
+pub mod Head
+pub mod Moved
 pub mod Perform
 pub mod Position
 pub mod Possible

@@ -1,12 +1,17 @@
 -- What the functions below the single step require, so that no index, sum or shift leaves its type. The questions that come before them give
 -- it: 1 to 9 the task's bounds, 31 the position's, 14 the steps', and decoding the instruction's.
-use Prim.Native.Nat.{_≤_, _<_}
+use Prim.Native.Nat.{ℕ, _+_, _*_, _≤_, _<_}
 use mathlib.Core.Path.{_≡_}
 use mathlib.Core.Bool.{true}
+use mathlib.Core.List.{List}
+use lib.ListN.{length, getD}
 use Rattle.task.specs.Bounds.{inRange}
+use Rattle.task.specs.Index.{actionAt}
 use Rattle.task.specs.Instruction.{allowed}
 use Rattle.task.specs.declared.index.Index.{Index}
 use Rattle.task.specs.declared.instruction.Instruction.{Instruction}
+use Rattle.task.specs.declared.instruction.Instruction.the-variants.{Act, Call}
+use Rattle.task.specs.declared.instruction.Proc.{Proc}
 use Rattle.step.specs.Position.{top}
 use Rattle.step.specs.Possible.{possible}
 use Rattle.step.specs.declared.position.Position.{Position}
@@ -16,6 +21,12 @@ pub record Bounded (i : Index) : Type 0 where
   pub ranges : inRange (i .bounds) ≡ true
   pub actions : i .actions ≤ 64
   pub cases : i .cases ≤ 32
+
+-- such a task's actions and cases are all there in its bytes
+pub record Held (bytes : List ℕ) (i : Index) (offsets : List ℕ) : Type 0 where
+  pub task : Bounded i
+  pub action : (a : ℕ) → a < i .actions → getD offsets a 0 + (20 + 32 * actionAt bytes (getD offsets a 0) .effects) ≤ length bytes
+  pub case : i .first + 28 * i .cases ≤ length bytes
 
 -- a position with a frame, whose steps can grow
 pub record Framed (s : Position) : Type 0 where
@@ -39,3 +50,11 @@ pub record Ready (i : Index) (s : Position) (w : Instruction) : Type 0 where
   pub standing : Open i s
   pub left : s .steps < i .bounds .steps
   pub allowed : allowed (i .bounds) (i .actions) (top s .line) w ≡ true
+
+-- an instruction whose action is one of the task's
+abbrev pub Known : Index → Instruction → Type 0
+Known i w = (action : ℕ) → w ≡ Act action → action < i .actions
+
+-- room for a call's frame: question 21 said yes
+abbrev pub Room : Index → ℕ → Instruction → Type 0
+Room i depth w = (procedure : Proc) → w ≡ Call procedure → depth < i .bounds .stack

@@ -3,6 +3,8 @@
 use crate::facts::holds;
 use task::index::effect_at;
 ghost use mathlib.Core.Path.{_≡_};
+ghost use Prim.Native.Nat.{_+_, _*_, _≤_};
+ghost use lib.ListN.{length};
 ghost use mathlib.Core.Bool.{cond};
 ghost use lib.Bits.{bitOr};
 ghost use Rattle.task.specs.Index.{actionAt};
@@ -23,7 +25,7 @@ fn joined(fires: bool, set: u64, more: u64) -> u64
 
 // What the effects of the action at an offset, so many of them, change in a state.
 pub(crate) fn changes_of(task: &[u8], at: usize, effects: u16, state: u64) -> Changes
-    requires { ⌜ effects ≡ actionAt (now task) at .effects ⌝ }
+    requires { ⌜ (effects ≡ actionAt (now task) at .effects) × (at + (20 + 32 * effects) ≤ length (now task)) ⌝ }
     ensures { λ r. ⌜ r ≡ changesOf state (effectsOf (now (task .entry)) at) ⌝ }
 {
     let mut raised = 0;

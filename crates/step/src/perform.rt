@@ -21,12 +21,26 @@ use task::instruction::Proc;
 use task::program::instruction_on;
 use task::verdict::Verdict;
 ghost use mathlib.Core.Path.{_≡_};
-ghost use Prim.Native.Nat.{_≤_, _<_};
-ghost use Rattle.records.specs.Loop.{stop, go};
-ghost use Rattle.step.specs.Position.{counted};
-ghost use Rattle.step.specs.Ready.{Framed, Movable, Open, Ready};
+ghost use Prim.Native.Nat.{ℕ, _+_, _*_, _≤_, _<_};
+ghost use lib.ListN.{length};
+ghost use Rattle.task.specs.Index.{actionAt};
+ghost use Rattle.records.specs.Loop.{stop};
+ghost use mathlib.Core.Bool.{cond};
+ghost use mathlib.Core.List.{List};
+ghost use lib.Dec.{ltb};
+ghost use Rattle.task.specs.declared.instruction.Instruction.the-variants.{Act, Call, End};
+ghost use Rattle.step.specs.Facts.{has};
+ghost use Rattle.step.specs.Moved.{movedBy, performedAs};
+ghost use Rattle.step.specs.Position.{advanced, jumped, popped};
+ghost use Rattle.step.specs.Ready.{Held, Framed, Movable, Open, Ready, Known, Room};
 ghost use Rattle.step.specs.declared.position.Position.{Position};
-ghost use Rattle.step.specs.Perform.{act, goto, call, afterCase, end, perform, runStep, answered};
+ghost use Rattle.step.specs.Perform.{act, call, afterCase, end, perform, runStep, answered};
+
+// The answer to questions 19 to 22, and 28: the first that says no, or the facts after an action; any other instruction leaves them.
+pub enum Asked {
+    No(u8),
+    Facts(u64),
+}
 
 // The answer to one step, and the position after it: the next one, or after a refusal the same.
 pub struct Stepped {
@@ -47,63 +61,96 @@ fn refused(question: u8, position: Position) -> Stepped
     }
 }
 
-// The position moved: one step more is done.
-fn moved(position: Position) -> Stepped
-    requires { ⌜ position .steps < 65535 ⌝ }
-    ensures { λ r. ⌜ ((s : Position) → r ≡ answered s (go (counted position))) ⌝ }
-{
-    Stepped {
-        verdict: Verdict::Accepted { value: 1 },
-        position: position.counted(),
-    }
-}
-
 // Act: questions 19 and 20.
-fn act(task: &[u8], at: usize, position: Position) -> Stepped
-    requires { ⌜ Movable position ⌝ }
-    ensures { λ r. ⌜ r ≡ answered position (act (now (task .entry)) at position) ⌝ }
+fn act(task: &[u8], at: usize, facts: u64) -> Asked
+    requires { ⌜ at + (20 + 32 * actionAt (now task) at .effects) ≤ length (now task) ⌝ }
+    ensures { λ r. ⌜ ((i : Index) (s : Position) (action : ℕ) →
+        s .facts ≡ facts → performedAs (now (task .entry)) i s (Act action) r ≡ act (now (task .entry)) at s) ⌝ }
 {
     let action = action_at(task, at);
-    let facts = position.facts;
     let precondition = action.precondition;
     if !holds(facts, precondition) {
-        return refused(PRECONDITION, position);
+        return Asked::No(PRECONDITION);
     }
     let changes = changes_of(task, at, action.effects, facts);
     if !clash_free(changes) {
-        return refused(CLASH, position);
+        return Asked::No(CLASH);
     }
-    moved(position.advanced().with_facts(changed(facts, changes)))
+    Asked::Facts(changed(facts, changes))
 }
 
-// Goto: jumps if the fact is false.
-fn goto(target: Line, fact: u8, position: Position) -> Stepped
+// Call: question 21.
+fn call(stack: u8, facts: u64, depth: u8) -> Asked
+    ensures { λ r. ⌜ ((bytes : List ℕ) (i : Index) (s : Position) (procedure : Proc) →
+        s .depth ≡ depth → performedAs bytes i s (Call procedure) r ≡ call stack procedure s) ⌝ }
+{
+    if stack <= depth {
+        return Asked::No(STACK);
+    }
+    Asked::Facts(facts)
+}
+
+// End: question 22, with one frame left.
+fn end(task: &[u8], index: Index, facts: u64, case: u8, depth: u8) -> Asked
+    requires { ⌜ index .first + (28 + 28 * case) ≤ length (now task) ⌝ }
+    ensures { λ r. ⌜ ((s : Position) →
+        s .facts ≡ facts
+        → s .case ≡ case
+        → s .depth ≡ depth
+        → performedAs (now (task .entry)) index s End r ≡ end (now (task .entry)) index s) ⌝ }
+{
+    if 1 < depth {
+        return Asked::Facts(facts);
+    }
+    let last = case_at(task, index.first, case);
+    let goal = last.goal;
+    if !holds(facts, goal) {
+        return Asked::No(GOAL);
+    }
+    Asked::Facts(facts)
+}
+
+// Questions 19 to 22 of an instruction, and 28 of an empty one, at a position with these facts, this case and this depth.
+pub fn ask(
+    task: &[u8],
+    index: Index,
+    offsets: &[usize; 64],
+    facts: u64,
+    case: u8,
+    depth: u8,
+    w: Instruction,
+) -> Asked
+    requires { ⌜ Held (now task) index (now offsets) × (case < index .cases) × Known index w ⌝ }
+    ensures { λ r. ⌜ ((s : Position) →
+        s .facts ≡ facts
+        → s .case ≡ case
+        → s .depth ≡ depth
+        → performedAs (now (task .entry)) index s w r ≡ perform (now (task .entry)) index (now (offsets .entry)) s w) ⌝ }
+{
+    match w {
+        Instruction::Empty => Asked::No(EMPTY),
+        Instruction::Act(action) => act(task, offsets[action as usize], facts),
+        Instruction::Goto(_, _) => Asked::Facts(facts),
+        Instruction::Call(_) => call(index.bounds.stack, facts, depth),
+        Instruction::End => end(task, index, facts, case, depth),
+    }
+}
+
+// Goto: the next line if the fact is true, else the target.
+fn goto(target: Line, fact: u8, position: Position) -> Position
     requires { ⌜ Movable position × (fact < 64) ⌝ }
-    ensures { λ r. ⌜ r ≡ answered position (goto target fact position) ⌝ }
+    ensures { λ r. ⌜ r ≡ cond (has (position .facts) fact) (advanced position) (jumped position target) ⌝ }
 {
     if has(position.facts, fact) {
-        moved(position.advanced())
+        position.advanced()
     } else {
-        moved(position.jumped(target))
+        position.jumped(target)
     }
-}
-
-// Call: question 21. The caller's line grows before the procedure is pushed.
-fn call(stack: u8, procedure: Proc, position: Position) -> Stepped
-    requires { ⌜ Movable position × (stack ≤ 16) ⌝ }
-    ensures { λ r. ⌜ r ≡ answered position (call stack procedure position) ⌝ }
-{
-    // By value: the order of this and the question is free.
-    let caller = position.advanced();
-    if stack <= position.depth {
-        return refused(STACK, position);
-    }
-    moved(caller.pushed(procedure))
 }
 
 // The position after the end of a case: the next case, or the finish.
 fn after_case(task: &[u8], index: Index, position: Position) -> Position
-    requires { ⌜ position .case < 255 ⌝ }
+    requires { ⌜ (position .case < 255) × (index .first + 28 * index .cases ≤ length (now task)) ⌝ }
     ensures { λ r. ⌜ r ≡ afterCase (now (task .entry)) index position ⌝ }
 {
     let next = position.case + 1;
@@ -115,41 +162,64 @@ fn after_case(task: &[u8], index: Index, position: Position) -> Position
     }
 }
 
-// End: with more than one frame a pop; else, with the one frame that is left, question 22 and the end of the case.
-fn end(task: &[u8], index: Index, position: Position) -> Stepped
-    requires { ⌜ Framed position × (position .case < 255) ⌝ }
-    ensures { λ r. ⌜ r ≡ answered position (end (now (task .entry)) index position) ⌝ }
+// End: with more than one frame a pop, else the end of the case.
+fn ended(task: &[u8], index: Index, position: Position) -> Position
+    requires { ⌜ Framed position × (position .case < 255) × (index .first + 28 * index .cases ≤ length (now task)) ⌝ }
+    ensures { λ r. ⌜ r ≡ cond (ltb 1 (position .depth)) (popped position) (afterCase (now (task .entry)) index position) ⌝ }
 {
     if 1 < position.depth {
-        return moved(position.popped());
+        position.popped()
+    } else {
+        after_case(task, index, position)
     }
-    let case = case_at(task, index.first, position.case);
-    let goal = case.goal;
-    if !holds(position.facts, goal) {
-        return refused(GOAL, position);
+}
+
+// The position after an instruction, given the facts after an action.
+fn moved(task: &[u8], index: Index, position: Position, facts: u64, w: Instruction) -> Position
+    requires { ⌜ Ready index position w × Room index (position .depth) w × (index .first + 28 * index .cases ≤ length (now task)) ⌝ }
+    ensures { λ r. ⌜ r ≡ movedBy (now (task .entry)) index position facts w ⌝ }
+{
+    match w {
+        Instruction::Empty => position,
+        Instruction::Act(_) => position.advanced().with_facts(facts),
+        Instruction::Goto(target, fact) => goto(target, fact, position),
+        // The caller's line grows before the procedure is pushed.
+        Instruction::Call(procedure) => position.advanced().pushed(procedure),
+        Instruction::End => ended(task, index, position),
     }
-    moved(after_case(task, index, position))
 }
 
 // One instruction at a position: questions 19 to 22, and 28 of an empty one.
-pub fn perform(
+fn perform(
     task: &[u8],
     index: Index,
     offsets: &[usize; 64],
     position: Position,
     w: Instruction,
 ) -> Stepped
-    requires { ⌜ Ready index position w ⌝ }
+    requires { ⌜ Ready index position w × Held (now task) index (now offsets) ⌝ }
     ensures { λ r. ⌜
         r
         ≡ answered position (perform (now (task .entry)) index (now (offsets .entry)) position w) ⌝ }
 {
-    match w {
-        Instruction::Empty => refused(EMPTY, position),
-        Instruction::Act(action) => act(task, offsets[action as usize], position),
-        Instruction::Goto(target, fact) => goto(target, fact, position),
-        Instruction::Call(procedure) => call(index.bounds.stack, procedure, position),
-        Instruction::End => end(task, index, position),
+    let asked = ask(
+        task,
+        index,
+        offsets,
+        position.facts,
+        position.case,
+        position.depth,
+        w,
+    );
+    match asked {
+        Asked::No(question) => refused(question, position),
+        Asked::Facts(facts) => {
+            let next = moved(task, index, position, facts, w);
+            Stepped {
+                verdict: Verdict::Accepted { value: 1 },
+                position: next.counted(),
+            }
+        }
     }
 }
 
@@ -161,7 +231,7 @@ pub(crate) fn run_step(
     program: &[u8],
     position: Position,
 ) -> Stepped
-    requires { ⌜ Open index position ⌝ }
+    requires { ⌜ Open index position × Held (now task) index (now offsets) ⌝ }
     ensures { λ r. ⌜
         r
         ≡ answered position (runStep (now (task .entry)) index (now (offsets .entry)) (now (program .entry)) position) ⌝ }

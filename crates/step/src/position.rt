@@ -41,7 +41,7 @@ impl Position {
     }
 
     // The top frame.
-    pub fn top(self) -> Frame
+    pub(crate) fn top(self) -> Frame
         requires { ⌜ (0 < self .depth) × (self .depth ≤ 16) ⌝ }
         ensures { λ r. ⌜ r ≡ top self ⌝ }
     {

@@ -9,7 +9,7 @@ use task::program::check_program;
 use task::reading::read_task;
 use task::verdict::Verdict;
 ghost use mathlib.Core.Path.{_≡_};
-ghost use Rattle.step.specs.Ready.{Bounded};
+ghost use Rattle.step.specs.Ready.{Held};
 ghost use Rattle.step.specs.Single.{stepOnce, singleStep};
 
 // The step of a task and a program that passed: question 31, the finish, one instruction.
@@ -20,7 +20,7 @@ fn step_once(
     program: &[u8],
     position: Position,
 ) -> Stepped
-    requires { ⌜ Bounded index ⌝ }
+    requires { ⌜ Held (now bytes) index (now offsets) ⌝ }
     ensures { λ r. ⌜ r ≡ stepOnce (now (bytes .entry)) index (now (offsets .entry)) (now (program .entry)) position ⌝ }
 {
     if !possible(index, position) {

@@ -160,7 +160,15 @@ fn write_beside(task: &[u8], program: &[u8]) {
     let reading = read_task(task);
     let read = reading.task;
     let index = read.index;
-    let first = case_at(task, index.first, 0);
+    let at = index.first;
+    if task.len() < 28 {
+        return;
+    }
+    // The first case's record is there in a task that passes.
+    if task.len() - 28 < at {
+        return;
+    }
+    let first = case_at(task, at, 0);
     let fresh = Position::starting(0, first.start);
     let last = write_run(task, program, &plan, steps, fresh);
     if last.case == index.cases {

@@ -4,6 +4,7 @@ use Prim.Native.Nat.{ℕ, _+_, _≤_, _<_}
 use mathlib.Core.Path.{_≡_, refl, sym, ap, _∙_}
 use mathlib.Core.Bool.{Bool, true, false, cond}
 use mathlib.Core.List.{List}
+use native.Mathlib.Omega.{arith}
 use lib.ListN.{getD}
 use lib.Dec.{ltb}
 use borrow.Author.Tests.{lt-ltb, le-ltb}
@@ -23,47 +24,44 @@ use Rattle.task.specs.declared.instruction.Decoded.the-variants.{Is, Nothing}
 use Rattle.task.specs.Program.{instructionOn}
 use Rattle.step.specs.Effects.{effectsOf, changesOf, clashFree, changed}
 use Rattle.step.specs.Facts.{has, holds}
+use Rattle.step.specs.Moved.{movedBy, performedAs}
 use Rattle.step.specs.Perform.{act, goto, call, afterCase, end, perform, performDecoded, runLine, runStep}
 use Rattle.step.specs.Position.{top, jumped, advanced, pushed, popped, withFacts, nextCase, finished, counted}
 use Rattle.step.specs.Questions.{STEPS, PRECONDITION, CLASH, STACK, GOAL, EMPTY}
 use Rattle.step.specs.declared.effects.Changes.{Changes}
+use Rattle.step.specs.declared.perform.Asked.{Asked}
+use Rattle.step.specs.declared.perform.Asked.the-variants.{No, Facts}
 use Rattle.step.specs.declared.position.Frame.{Frame}
 use Rattle.step.specs.declared.position.Position.{Position}
 
 -- act: `h` says whether the precondition holds, `n` whether there is no clash
-module _ (bytes : List ℕ) (at : ℕ) (s : Position) (a : Action) (e : a ≡ actionAt bytes at) (h : Bool) (f : h ≡ holds (s .facts) (a .precondition)) where
-  pub act-refused : h ≡ false → stop PRECONDITION ≡ act bytes at s
-  unfolding act
-  act-refused z = ask-no _ _ _ (cc)
+module _ (bytes : List ℕ) (at facts : ℕ) (a : Action) (e : a ≡ actionAt bytes at) (h : Bool) (f : h ≡ holds facts (a .precondition)) where
+  pub act-refused : h ≡ false → (i : Index) (s : Position) (action : ℕ) → s .facts ≡ facts
+      → performedAs bytes i s (Act action) (No PRECONDITION) ≡ act bytes at s
+  unfolding act performedAs
+  act-refused z i s action x = ask-no _ _ _ (cc)
 
-  module _ (y : h ≡ true) (c : Changes) (g : c ≡ changesOf (s .facts) (effectsOf bytes at)) (n : Bool) (k : n ≡ clashFree c) where
-    pub act-clashes : n ≡ false → stop CLASH ≡ act bytes at s
-    unfolding act
-    act-clashes z = ask-no _ _ _ (cc) ∙ ask-yes _ _ _ (cc)
+  module _ (y : h ≡ true) (c : Changes) (g : c ≡ changesOf facts (effectsOf bytes at)) (n : Bool) (k : n ≡ clashFree c) where
+    pub act-clashes : n ≡ false → (i : Index) (s : Position) (action : ℕ) → s .facts ≡ facts
+        → performedAs bytes i s (Act action) (No CLASH) ≡ act bytes at s
+    unfolding act performedAs
+    act-clashes z i s action x = ask-no _ _ _ (cc) ∙ ask-yes _ _ _ (cc)
 
-    pub act-moves : n ≡ true → (p q : Position) (x : ℕ) → p ≡ advanced s → x ≡ changed (s .facts) c → q ≡ withFacts p x
-        → go (counted q) ≡ act bytes at s
-    unfolding act
-    act-moves z p q x i j l = cc (l, i, j, g) ∙ ask-yes _ _ _ (cc) ∙ ask-yes _ _ _ (cc)
+    pub act-moves : n ≡ true → (after : ℕ) → after ≡ changed facts c → (i : Index) (s : Position) (action : ℕ) → s .facts ≡ facts
+        → performedAs bytes i s (Act action) (Facts after) ≡ act bytes at s
+    unfolding act performedAs movedBy
+    act-moves z after j i s action x = cc (j, g, x) ∙ ask-yes _ _ _ (cc) ∙ ask-yes _ _ _ (cc)
 
--- goto: `h` says whether the fact is true
-module _ (target : Line) (fact : ℕ) (s : Position) (h : Bool) (f : h ≡ has (s .facts) fact) (p : Position) where
-  pub goto-advances : h ≡ true → p ≡ advanced s → go (counted p) ≡ goto target fact s
-  unfolding goto
-  goto-advances z e = ap (λ (q : Position). go (counted q)) (e ∙ cond-yes _ _ _ _ f z)
+module _ (stack depth : ℕ) where
+  pub call-refused : stack ≤ depth → (bytes : List ℕ) (i : Index) (s : Position) (procedure : Proc) → s .depth ≡ depth
+      → performedAs bytes i s (Call procedure) (No STACK) ≡ call stack procedure s
+  unfolding call performedAs
+  call-refused h bytes i s procedure e = ask-no _ _ _ (le-ltb (s .depth) stack (omega (arith, h, e)))
 
-  pub goto-jumps : h ≡ false → p ≡ jumped s target → go (counted p) ≡ goto target fact s
-  unfolding goto
-  goto-jumps z e = ap (λ (q : Position). go (counted q)) (e ∙ cond-no _ _ _ _ f z)
-
-module _ (stack : ℕ) (procedure : Proc) (s : Position) where
-  pub call-refused : stack ≤ s .depth → stop STACK ≡ call stack procedure s
-  unfolding call
-  call-refused h = ask-no _ _ _ (le-ltb (s .depth) stack h)
-
-  pub call-pushes : s .depth < stack → (p q : Position) → p ≡ advanced s → q ≡ pushed p procedure → go (counted q) ≡ call stack procedure s
-  unfolding call
-  call-pushes h p q e f = cc (e, f) ∙ ask-yes _ _ _ (lt-ltb (s .depth) stack h)
+  pub call-pushes : depth < stack → (facts : ℕ) (bytes : List ℕ) (i : Index) (s : Position) (procedure : Proc) → s .depth ≡ depth
+      → performedAs bytes i s (Call procedure) (Facts facts) ≡ call stack procedure s
+  unfolding call performedAs movedBy
+  call-pushes h facts bytes i s procedure e = ask-yes _ _ _ (lt-ltb (s .depth) stack (omega (arith, h, e)))
 
 module _ (bytes : List ℕ) (i : Index) (s : Position) where
   pub case-follows : s .case + 1 < i .cases → (x : Case) → x ≡ caseAt bytes (i .first) (s .case + 1) → (p : Position) → p ≡ nextCase s (x .start)
@@ -75,27 +73,36 @@ module _ (bytes : List ℕ) (i : Index) (s : Position) where
   unfolding afterCase
   none-follows h p f = f ∙ cond-no _ false _ _ (sym (le-ltb (s .case + 1) (i .cases) h)) refl
 
-  pub after-steps : (p : Position) → p ≡ afterCase bytes i s → s .steps < 65535 → p .steps < 65535
-  unfolding afterCase nextCase finished
-  after-steps p e h = rw e (same (ltb (s .case + 1) (i .cases)))
-    where
-      same : (b : Bool) → cond b (nextCase s (caseAt bytes (i .first) (s .case + 1) .start)) (finished s) .steps < 65535
-      same true = h
-      same false = h
+-- an end by the depth: many frames, or one
+module _ (depth : ℕ) (many one p : Position) where
+  pub frames-many : 1 < depth → p ≡ many → p ≡ cond (ltb 1 depth) many one
+  frames-many h e = e ∙ cond-yes _ true _ _ (sym (lt-ltb 1 depth h)) refl
 
-  pub end-pops : 1 < s .depth → (p : Position) → p ≡ popped s → go (counted p) ≡ end bytes i s
-  unfolding end
-  end-pops h p e = ap (λ (q : Position). go (counted q)) e ∙ cond-yes _ true _ _ (sym (lt-ltb 1 (s .depth) h)) refl
+  pub frames-one : depth ≤ 1 → p ≡ one → p ≡ cond (ltb 1 depth) many one
+  frames-one h e = e ∙ cond-no _ false _ _ (sym (le-ltb 1 depth h)) refl
+
+-- end, at a position with these facts, this case and this depth
+module _ (bytes : List ℕ) (i : Index) (facts case depth : ℕ) where
+  abbrev pub EndsAs : Asked → Type 0
+  EndsAs r = (s : Position) → s .facts ≡ facts → s .case ≡ case → s .depth ≡ depth → performedAs bytes i s End r ≡ end bytes i s
+
+  pub end-pops : 1 < depth → EndsAs (Facts facts)
+  unfolding end performedAs movedBy
+  end-pops h s x y z =
+      let pops = lt-ltb 1 (s .depth) (omega (arith, h, z)) in
+      ap (λ (q : Position). go (counted q)) (sym (cond-yes _ true _ _ (sym pops) refl)) ∙ cond-yes _ true _ _ (sym pops) refl
 
   -- with one frame: `g` says whether the goal holds
-  module _ (l : s .depth ≤ 1) (x : Case) (e : x ≡ caseAt bytes (i .first) (s .case)) (g : Bool) (f : g ≡ holds (s .facts) (x .goal)) where
-    pub end-refused : g ≡ false → stop GOAL ≡ end bytes i s
-    unfolding end
-    end-refused z = ask-no _ _ _ (cc) ∙ cond-no _ false _ _ (sym (le-ltb 1 (s .depth) l)) refl
+  module _ (l : depth ≤ 1) (x : Case) (e : x ≡ caseAt bytes (i .first) case) (g : Bool) (f : g ≡ holds facts (x .goal)) where
+    pub end-refused : g ≡ false → EndsAs (No GOAL)
+    unfolding end performedAs
+    end-refused z s j k m = ask-no _ _ _ (cc) ∙ cond-no _ false _ _ (sym (le-ltb 1 (s .depth) (omega (arith, l, m)))) refl
 
-    pub end-closes : g ≡ true → (p : Position) → p ≡ afterCase bytes i s → go (counted p) ≡ end bytes i s
-    unfolding end
-    end-closes z p k = ap (λ (q : Position). go (counted q)) k ∙ ask-yes _ _ _ (cc) ∙ cond-no _ false _ _ (sym (le-ltb 1 (s .depth) l)) refl
+    pub end-closes : g ≡ true → EndsAs (Facts facts)
+    unfolding end performedAs movedBy
+    end-closes z s j k m =
+        let last = le-ltb 1 (s .depth) (omega (arith, l, m)) in
+        ap (λ (q : Position). go (counted q)) (sym (cond-no _ false _ _ (sym last) refl)) ∙ ask-yes _ _ _ (cc) ∙ cond-no _ false _ _ (sym last) refl
 
 module _ (bytes : List ℕ) (i : Index) (offsets : List ℕ) (s : Position) (w : Instruction) where
   pub performs-none : w ≡ Empty → stop EMPTY ≡ perform bytes i offsets s w
@@ -106,9 +113,9 @@ module _ (bytes : List ℕ) (i : Index) (offsets : List ℕ) (s : Position) (w :
   unfolding perform
   performs-act action e = rw e
 
-  pub performs-goto : (target : Line) (fact : ℕ) → w ≡ Goto target fact → goto target fact s ≡ perform bytes i offsets s w
-  unfolding perform
-  performs-goto target fact e = rw e
+  pub performs-goto : (target : Line) (fact facts : ℕ) → w ≡ Goto target fact → performedAs bytes i s w (Facts facts) ≡ perform bytes i offsets s w
+  unfolding perform goto performedAs movedBy
+  performs-goto target fact facts e = rw e refl
 
   pub performs-call : (procedure : Proc) → w ≡ Call procedure → call (i .bounds .stack) procedure s ≡ perform bytes i offsets s w
   unfolding perform

@@ -3,8 +3,8 @@
 -- whose questions say yes is made, so a step is determined by them.
 -- Assumes nothing.
 use Prim.Native.Nat.{ℕ, _+_, _≤_, _<_}
-use mathlib.Core.Path.{_≡_, refl, _∙_}
-use mathlib.Core.Bool.{Bool, true, false}
+use mathlib.Core.Path.{_≡_, refl, ap, _∙_}
+use mathlib.Core.Bool.{Bool, true, false, cond}
 use mathlib.Core.List.{List}
 use mathlib.Core.Logic.{_⊎_, inl, inr}
 use native.Mathlib.Omega.{arith}
@@ -13,7 +13,7 @@ use lib.ListN.{getD}
 use borrow.Author.Tests.{ltb-true, ltb-false}
 use Rattle.records.specs.Loop.{Turn, go, ask}
 use Rattle.records.proofs.Laws.Loop.{stop-go, Keeps, ask-keeps}
-use Rattle.records.proofs.Laws.Tests.{cond-either}
+use Rattle.records.proofs.Laws.Tests.{cond-either, cond-yes, cond-no}
 use Rattle.task.specs.Index.{actionAt, caseAt}
 use Rattle.task.specs.Program.{instructionOn}
 use Rattle.task.specs.declared.index.Index.{Index}
@@ -26,10 +26,11 @@ use Rattle.task.specs.declared.instruction.Decoded.the-variants.{Is, Nothing}
 use Rattle.step.specs.Effects.{effectsOf, changesOf, clashFree, changed}
 use Rattle.step.specs.Facts.{has, holds}
 use Rattle.step.specs.Perform.{act, goto, call, afterCase, end, perform, performDecoded, runLine, runStep}
+use Rattle.step.specs.Moved.{movedBy, performedAs}
 use Rattle.step.specs.Position.{top, jumped, advanced, pushed, popped, withFacts, nextCase, finished, counted}
 use Rattle.step.specs.Questions.{STEPS}
 use Rattle.step.specs.declared.position.Position.{Position}
-use Rattle.step.proofs.Laws.Answers.{act-moves, goto-advances, goto-jumps, call-pushes, case-follows, none-follows, end-pops, end-closes, performs-act, performs-goto, performs-call, performs-end}
+use Rattle.step.proofs.Laws.Answers.{act-moves, call-pushes, case-follows, none-follows, frames-many, frames-one, end-pops, end-closes, performs-act, performs-goto, performs-call, performs-end}
 
 -- the moves of each instruction, with what its questions have said; the step is not counted yet
 pub data Move (bytes : List ℕ) (i : Index) (offsets : List ℕ) (s : Position) : Instruction → Position → Type 0 where
@@ -125,15 +126,25 @@ module _ (bytes : List ℕ) (i : Index) (offsets : List ℕ) (s : Position) wher
       closed (finishes h k l) = refl
 
   -- a move whose questions say yes is made, so a step is determined by them
+  -- a step to a position
+  abbrev steps : Position → Turn Position ℕ
+  steps u = go (counted u)
+
+  -- the end of a case whose goal holds
+  closes : s .depth ≤ 1 → holds (s .facts) (caseAt bytes (i .first) (s .case) .goal) ≡ true
+      → steps (cond (ltb 1 (s .depth)) (popped s) (afterCase bytes i s)) ≡ perform bytes i offsets s End
+  unfolding performedAs movedBy
+  closes h k = end-closes bytes i _ _ _ h _ refl _ refl k s refl refl refl ∙ performs-end bytes i offsets s _ refl
+
   pub moves : {w : Instruction} {u : Position} → Move bytes i offsets s w u → go (counted u) ≡ perform bytes i offsets s w
-  moves (acts h k) =
-      act-moves bytes _ s _ refl _ refl h _ refl _ refl k _ _ _ refl refl refl ∙ performs-act bytes i offsets s _ _ refl
-  moves (falls-through h) = goto-advances _ _ s _ refl _ h refl ∙ performs-goto bytes i offsets s _ _ _ refl
-  moves (jumps h) = goto-jumps _ _ s _ refl _ h refl ∙ performs-goto bytes i offsets s _ _ _ refl
-  moves (calls h) = call-pushes _ _ s h _ _ refl refl ∙ performs-call bytes i offsets s _ _ refl
-  moves (returns h) = end-pops bytes i s h _ refl ∙ performs-end bytes i offsets s _ refl
-  moves (begins h k l) = end-closes bytes i s h _ refl _ refl k _ (case-follows bytes i s l _ refl _ refl) ∙ performs-end bytes i offsets s _ refl
-  moves (finishes h k l) = end-closes bytes i s h _ refl _ refl k _ (none-follows bytes i s l _ refl) ∙ performs-end bytes i offsets s _ refl
+  unfolding performedAs movedBy
+  moves (acts {action} h k) = act-moves bytes _ (s .facts) _ refl _ refl h _ refl _ refl k _ refl i s action refl ∙ performs-act bytes i offsets s _ _ refl
+  moves (falls-through h) = ap steps (cond-yes _ _ _ _ refl h) ∙ performs-goto bytes i offsets s _ _ _ 0 refl
+  moves (jumps h) = ap steps (cond-no _ _ _ _ refl h) ∙ performs-goto bytes i offsets s _ _ _ 0 refl
+  moves (calls h) = call-pushes _ _ h 0 bytes i s _ refl ∙ performs-call bytes i offsets s _ _ refl
+  moves (returns h) = ap steps (frames-many _ _ _ _ h refl) ∙ end-pops bytes i _ _ _ h s refl refl refl ∙ performs-end bytes i offsets s _ refl
+  moves (begins h k l) = ap steps (frames-one _ _ _ _ h (case-follows bytes i s l _ refl _ refl)) ∙ closes h k
+  moves (finishes h k l) = ap steps (frames-one _ _ _ _ h (none-follows bytes i s l _ refl)) ∙ closes h k
 
   pub move-determined : {w : Instruction} {u v : Position} → Move bytes i offsets s w u → Move bytes i offsets s w v → counted u ≡ counted v
   move-determined m n = let e = moves m in let f = moves n in cc

@@ -6,6 +6,7 @@ use mathlib.Core.Path.{_≡_, sym, _∙_}
 use mathlib.Core.List.{List}
 use native.Mathlib.Omega.{arith}
 use Rattle.task.specs.declared.index.Index.{Index}
+use Rattle.task.specs.declared.index.Task.{Task}
 use Rattle.task.specs.declared.instruction.Line.{Line}
 use Rattle.task.specs.declared.instruction.Proc.{Proc}
 use Rattle.task.specs.declared.instruction.Instruction.{Instruction}
@@ -14,22 +15,35 @@ use Rattle.task.proofs.Laws.Bounds.{ranges}
 use Rattle.task.specs.Program.{instructionOn}
 use Rattle.task.specs.declared.instruction.Decoded.{Decoded}
 use Rattle.task.specs.declared.instruction.Decoded.the-variants.{Is}
+use Rattle.task.proofs.Laws.Passed.{Passed}
 use Rattle.task.proofs.Laws.Instruction.{Allowed, allows, decode-allowed}
 use Rattle.step.specs.Position.{top}
-use Rattle.step.specs.Ready.{Framed, Movable, Open, Ready}
+use Rattle.step.specs.Ready.{Bounded, Held, Framed, Movable, Open, Ready, Known}
 use Rattle.step.specs.declared.position.Frame.{Frame}
 use Rattle.step.specs.declared.position.Position.{Position}
 use Rattle.step.proofs.Laws.Possible.{parts, depth-open}
+
+-- a task that passes has them
+pub passed-held : (bytes : List ℕ) (t : Task) → Passed bytes t → Held bytes (t .index) (t .offsets)
+passed-held bytes t p =
+    record {
+      task = record { ranges = p .bounded; actions = p .actions; cases = p .cases .1 };
+      action = p .held;
+      case = p .cased;
+    }
 
 module _ (i : Index) (s : Position) where
   pub open-depth : Open i s → s .depth ≤ 16
   open-depth o =
       omega (arith, ranges (i .bounds) (o .task .ranges) .stack .1, depth-open i s (parts i s (o .possible) .depth) (o .unfinished) .1)
 
-  pub open-case : Open i s → s .case < 255
-  open-case o =
+  pub open-cases : Open i s → s .case < i .cases
+  open-cases o =
       let p = parts i s (o .possible) in
-      omega (arith, p .case, o .task .cases, depth-open i s (p .depth) (o .unfinished) .0)
+      omega (arith, p .case, depth-open i s (p .depth) (o .unfinished) .0)
+
+  pub open-case : Open i s → s .case < 255
+  open-case o = omega (arith, open-cases o, o .task .cases)
 
   module _ (w : Instruction) (r : Ready i s w) where
     pub ready-framed : Framed s
@@ -45,6 +59,9 @@ module _ (i : Index) (s : Position) where
 
     allowed-there : Allowed (i .bounds) (i .actions) (top s .line) w
     allowed-there = allows (i .bounds) (i .actions) (top s .line) w (r .allowed)
+
+    pub ready-known : Known i w
+    ready-known action e = let a : Allowed (i .bounds) (i .actions) (top s .line) (Act action) = rw e at allowed-there in a .1
 
     pub ready-act : (action : ℕ) → w ≡ Act action → Movable s × (action < 64)
     ready-act action e =

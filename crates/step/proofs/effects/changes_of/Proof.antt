@@ -1,6 +1,7 @@
 -- `step::effects::changes_of` meets its contract: effect by effect the words come to have what the fired effects have.
 -- Assumes nothing.
 use borrow.Author.Needs.{needs}
+use native.Mathlib.Omega.{arith}
 use Prim.Native.Nat.{_-_}
 use Rattle.task.specs.declared.index.Effect.{Effect}
 use Rattle.step.specs.Effects.{effectsOf, changesOf}
@@ -19,7 +20,9 @@ loop-holds : tie.Need-loop-holds Inv-loop μ-loop
 loop-holds c = (walk-begins _ _ _ _ _, walk-begins _ _ _ _ _)
 
 effect-at-requires : tie.Need-effect-at-requires Inv-loop μ-loop
-effect-at-requires c κs = tt
+effect-at-requires c κs =
+    let at-start = c .before .before .before in
+    omega (arith, c .loop-test .taken, at-start .pre .1)
 
 holds-requires : tie.Need-holds-requires Inv-loop μ-loop
 holds-requires c κs = tt
@@ -57,7 +60,7 @@ returns c =
     let walked = c .before .loop .inv in
     let raised = walk-ends _ _ _ _ _ _ _ (walked .0) (c .loop-test .left) in
     let lowered = walk-ends _ _ _ _ _ _ _ (walked .1) (c .loop-test .left) in
-    rw (← (c .before .before .before .pre)) (λ i. record { raised = raised i; lowered = lowered i })
+    rw (← (c .before .before .before .pre .0)) (λ i. record { raised = raised i; lowered = lowered i })
 
 pub changes-of-spec : {M : Type 1} → statement M
 changes-of-spec =

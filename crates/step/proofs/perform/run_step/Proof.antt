@@ -16,7 +16,7 @@ returns : tie.Need-returns
 returns c = c .refused .ensures ∙ ap (answered _) (steps-used _ _ _ _ _ (omega arith))
 
 top-requires : tie.Need-top-requires
-top-requires c κs = let stands = c .before .before .before .before .before .pre in
+top-requires c κs = let stands = c .before .before .before .before .before .pre .0 in
     (stands .unfinished, open-depth _ _ stands)
 
 instruction-on-requires : tie.Need-instruction-on-requires
@@ -44,7 +44,8 @@ perform-requires c κs =
     let at-decoded = c .before in
     let at-instruction-on = at-decoded .before .before in
     let at-top = at-instruction-on .before .before .before in
-    line-ready _ _ _ (at-top .before .before .before .before .before .before .pre) (omega arith) _ (at-top .top .ensures) _ (at-instruction-on .instruction-on .ensures) _ (at-decoded .decoded .given .1)
+    let pre = at-top .before .before .before .before .before .before .pre in
+    (line-ready _ _ _ (pre .0) (omega arith) _ (at-top .top .ensures) _ (at-instruction-on .instruction-on .ensures) _ (at-decoded .decoded .given .1), pre .1)
 
 returns-3 : tie.Need-returns-3
 returns-3 c =

@@ -6,6 +6,7 @@ use Rattle.task.specs.declared.reading.Reading.{Reading}
 use Rattle.task.proofs.Laws.Passed.{passed}
 use Rattle.step.specs.Perform.{unchanged}
 use Rattle.step.proofs.Laws.Single.{task-refused, program-refused, both-passed}
+use Rattle.step.proofs.Laws.Ready.{passed-held}
 use Rattle.step.proofs.single.single_step.Statement.{statement}
 use Rattle.step.proofs.single.single_step.Tie as tie
 
@@ -46,7 +47,7 @@ step-once-requires c κs =
     let at-read-task = at-enum-told .before .before in
     let read = at-read-task .read-task .ensures in
     let holds = passed _ _ (sym (ap (λ (r : Reading). r .verdict) read) ∙ at-enum-told .enum-told .given .1) in
-    rw read (record { ranges = holds .bounded; actions = holds .actions; cases = holds .cases .1 })
+    rw read (passed-held _ _ holds)
 
 returns-3 : tie.Need-returns-3
 returns-3 c =

@@ -26,12 +26,14 @@ run-step-requires : tie.Need-run-step-requires
 run-step-requires c κs =
     let at-if1 = c .before .before in
     let at-possible = at-if1 .before in
-    let pre = at-possible .before .before .before .pre in
-    record {
-      task = pre;
-      possible = sym (at-possible .possible .ensures) ∙ not-false _ (at-if1 .if1 .left);
-      unfinished = omega arith;
-    }
+    let pre = at-possible .before .before .before .pre in (
+      record {
+        task = pre .task;
+        possible = sym (at-possible .possible .ensures) ∙ not-false _ (at-if1 .if1 .left);
+        unfinished = omega arith;
+      },
+      pre,
+    )
 
 returns-3 : tie.Need-returns-3
 returns-3 c =

@@ -1,0 +1,211 @@
+-- The head of a position: its moves are those of the position that it stands for.
+-- Assumes nothing.
+use Prim.Native.Nat.{ℕ, _+_, _-_, _≤_, _<_}
+use mathlib.Core.Path.{_≡_, refl, sym, ap, subst, _∙_}
+use mathlib.Core.Bool.{Bool, true, false, cond}
+use mathlib.Core.List.{List}
+use native.Mathlib.Decide.{ℕ-discrete}
+use native.Mathlib.Omega.{arith}
+use lib.ListN.{length, getD, set, length-set, length-replicate}
+use lib.Seq.{getD-set-same, getD-set-other}
+use lib.Dec.{ltb}
+use borrow.Author.Tests.{lt-ltb, le-ltb, ltb-true}
+use Rattle.records.proofs.Laws.Tests.{cond-yes, cond-no}
+use Rattle.task.specs.Index.{caseAt}
+use Rattle.task.specs.declared.index.Case.{Case}
+use Rattle.task.specs.declared.index.Index.{Index}
+use Rattle.task.specs.declared.instruction.Instruction.{Instruction}
+use Rattle.task.specs.declared.instruction.Instruction.the-variants.{Empty, Act, Goto, Call, End}
+use Rattle.task.specs.declared.instruction.Line.{Line}
+use Rattle.task.specs.declared.instruction.Proc.{Proc}
+use Rattle.step.specs.Facts.{has}
+use Rattle.step.specs.Head.{Stands, startingHead, frameOf, callerOf, jumpedHead, advancedHead, pushedHead, poppedHead, headWith, nextHead, finishedHead, countedHead, gotoHead, endedHead, movedHead}
+use Rattle.step.specs.Moved.{movedBy}
+use Rattle.step.specs.Perform.{afterCase}
+use Rattle.step.specs.Position.{origin, starting, top, jumped, advanced, pushed, popped, withFacts, nextCase, finished, counted}
+use Rattle.step.specs.declared.head.Head.{Head}
+use Rattle.step.specs.declared.position.Frame.{Frame}
+use Rattle.step.specs.declared.position.Position.{Position}
+
+-- an end, by the depth and the cases left
+module _ (bytes : List ℕ) (i : Index) (h : Head) (below : Frame) where
+  pub ended-pops : 1 < h .depth → (r : Head) → r ≡ poppedHead h below → r ≡ endedHead bytes i h below
+  unfolding endedHead
+  ended-pops l r e = e ∙ cond-yes _ true _ _ (sym (lt-ltb 1 (h .depth) l)) refl
+
+  pub ended-begins : h .depth ≤ 1 → h .case + 1 < i .cases → (x : Case) → x ≡ caseAt bytes (i .first) (h .case + 1)
+      → (r : Head) → r ≡ nextHead h (x .start) → r ≡ endedHead bytes i h below
+  unfolding endedHead
+  ended-begins l m x e r f =
+      f ∙ ap (λ (y : Case). nextHead h (y .start)) e
+      ∙ cond-yes _ true _ _ (sym (lt-ltb (h .case + 1) (i .cases) m)) refl
+      ∙ cond-no _ false _ _ (sym (le-ltb 1 (h .depth) l)) refl
+
+  pub ended-finishes : h .depth ≤ 1 → i .cases ≤ h .case + 1 → (r : Head) → r ≡ finishedHead h → r ≡ endedHead bytes i h below
+  unfolding endedHead
+  ended-finishes l m r f =
+      f ∙ cond-no _ false _ _ (sym (le-ltb (h .case + 1) (i .cases) m)) refl ∙ cond-no _ false _ _ (sym (le-ltb 1 (h .depth) l)) refl
+
+pub starting-stands : (start : ℕ) (callers : List Frame) → Stands (startingHead start) callers (starting 0 start)
+unfolding startingHead starting top frameOf origin
+starting-stands start callers =
+    record { facts = refl; steps = refl; case = refl; depth = refl; top = refl; below = λ k l. absurd (omega (arith, l)); size = refl }
+
+module _ (h : Head) (callers : List Frame) (s : Position) (st : Stands h callers s) where
+  pub jumped-stands : h .depth ≤ 16 → (line : Line) → Stands (jumpedHead h line) callers (jumped s line)
+  unfolding jumpedHead jumped top frameOf
+  jumped-stands d line =
+      record {
+        facts = st .facts;
+        steps = st .steps;
+        case = st .case;
+        depth = st .depth;
+        top =
+            getD-set-same (s .frames) (s .depth - 1) _ origin (omega (arith, st .depth, st .size, d))
+            ∙ ap (λ (f : Frame). record { procedure = f .procedure; line = line }) (st .top);
+        below = λ k l. getD-set-other (s .frames) (s .depth - 1) k _ origin (omega (arith, st .depth, l)) ∙ st .below k l;
+        size = length-set (s .frames) (s .depth - 1) (record { procedure = top s .procedure; line = line }) ∙ st .size;
+      }
+
+  pub advanced-stands : h .depth ≤ 16 → Stands (advancedHead h) callers (advanced s)
+  unfolding advanced advancedHead jumpedHead callerOf frameOf
+  advanced-stands d =
+      let same : top s .line .0 ≡ h .line .0 = ap (λ (f : Frame). f .line .0) (st .top) in
+      rw same (jumped-stands d (record { 0 = h .line .0 + 1 }))
+
+  -- the frame to come back to, kept at the depth, changes nothing below the top frame
+  pub noted-stands : (f : Frame) → Stands h (set callers (h .depth) f) s
+  noted-stands f =
+      record {
+        facts = st .facts;
+        steps = st .steps;
+        case = st .case;
+        depth = st .depth;
+        top = st .top;
+        below = λ k l. st .below k l ∙ sym (getD-set-other callers (h .depth) (k + 1) f origin (omega (arith, l)));
+        size = st .size;
+      }
+
+  pub pushed-stands : 0 < h .depth → h .depth < 16 → getD callers (h .depth) origin ≡ callerOf h → (procedure : Proc)
+      → Stands (pushedHead h procedure) callers (pushed (advanced s) procedure)
+  unfolding pushedHead pushed top frameOf advancedHead callerOf
+  pushed-stands a d e procedure =
+      let u = advanced-stands (omega (arith, d)) in
+      let f : Frame = record { procedure = procedure; line = record { 0 = 0 } } in
+      let back : advanced s .depth + 1 - 1 ≡ advanced s .depth = omega arith in
+      let under : (k : ℕ) → k + 1 < h .depth + 1 → getD (advanced s .frames) k origin ≡ getD callers (k + 1) origin =
+      λ k l.
+      elim (ℕ-discrete (k + 1) (h .depth)) [
+        | yes m ↦
+            ap (λ (n : ℕ). getD (advanced s .frames) n origin) (omega (arith, m, u .depth))
+            ∙ u .top
+            ∙ sym e
+            ∙ ap (λ (n : ℕ). getD callers n origin) (sym m)
+        | no n ↦ u .below k (omega (arith, n, l))
+      ] in
+      record {
+        facts = u .facts;
+        steps = u .steps;
+        case = u .case;
+        depth = omega (arith, u .depth);
+        top = rw back (getD-set-same (advanced s .frames) (advanced s .depth) f origin (omega (arith, u .depth, u .size, d)));
+        below = λ k l. getD-set-other (advanced s .frames) (advanced s .depth) k f origin (omega (arith, u .depth, l)) ∙ under k l;
+        size = length-set (advanced s .frames) (advanced s .depth) f ∙ u .size;
+      }
+
+  pub popped-stands : 1 < h .depth → h .depth ≤ 16 → (below : Frame) → below ≡ getD callers (h .depth - 1) origin
+      → Stands (poppedHead h below) callers (popped s)
+  unfolding poppedHead popped top frameOf
+  popped-stands a d below e =
+      record {
+        facts = st .facts;
+        steps = st .steps;
+        case = st .case;
+        depth = omega (arith, st .depth);
+        top =
+            getD-set-other (s .frames) (s .depth - 1) (s .depth - 1 - 1) origin origin (omega (arith, st .depth, a))
+            ∙ st .below (s .depth - 1 - 1) (omega (arith, st .depth, a))
+            ∙ ap (λ (n : ℕ). getD callers n origin) (omega (arith, st .depth, a))
+            ∙ sym e;
+        below = λ k l. getD-set-other (s .frames) (s .depth - 1) k origin origin (omega (arith, st .depth, l)) ∙ st .below k (omega (arith, l));
+        size = length-set (s .frames) (s .depth - 1) origin ∙ st .size;
+      }
+
+  pub facts-stand : (facts : ℕ) → Stands (headWith h facts) callers (withFacts s facts)
+  unfolding headWith withFacts top frameOf
+  facts-stand facts =
+      record { facts = refl; steps = st .steps; case = st .case; depth = st .depth; top = st .top; below = st .below; size = st .size }
+
+  pub next-stands : (start : ℕ) → Stands (nextHead h start) callers (nextCase s start)
+  unfolding nextHead nextCase top frameOf origin
+  next-stands start =
+      record {
+        facts = refl;
+        steps = st .steps;
+        case = ap (λ (c : ℕ). c + 1) (st .case);
+        depth = refl;
+        top = getD-set-same (s .frames) 0 origin origin (omega (arith, st .size));
+        below = λ k l. absurd (omega (arith, l));
+        size = length-set (s .frames) 0 origin ∙ st .size;
+      }
+
+  pub finished-stands : Stands (finishedHead h) callers (finished s)
+  unfolding finishedHead finished top frameOf origin
+  finished-stands =
+      record {
+        facts = st .facts;
+        steps = st .steps;
+        case = ap (λ (c : ℕ). c + 1) (st .case);
+        depth = refl;
+        top = getD-set-same (s .frames) 0 origin origin (omega (arith, st .size));
+        below = λ k l. absurd (omega (arith, l));
+        size = length-set (s .frames) 0 origin ∙ st .size;
+      }
+
+  pub counted-stands : Stands (countedHead h) callers (counted s)
+  unfolding countedHead counted top frameOf
+  counted-stands =
+      record {
+        facts = st .facts;
+        steps = ap (λ (n : ℕ). n + 1) (st .steps);
+        case = st .case;
+        depth = st .depth;
+        top = st .top;
+        below = st .below;
+        size = st .size;
+      }
+
+-- either way of a test that the head and the position share
+either-stands : (callers : List Frame) (b c : Bool) → c ≡ b → (x y : Head) (p q : Position) → (b ≡ true → Stands x callers p)
+    → (b ≡ false → Stands y callers q) → Stands (cond b x y) callers (cond c p q)
+either-stands callers true c e x y p q l r = rw e (l refl)
+either-stands callers false c e x y p q l r = rw e (r refl)
+
+-- the whole move: the frame to come back to is kept at the depth, `below` is the frame below the top one, and a call has room for its frame
+module _ (h : Head) (callers : List Frame) (s : Position) (st : Stands h callers s) (bytes : List ℕ) (i : Index) (a : 0 < h .depth)
+    (d : h .depth ≤ 16) (e : getD callers (h .depth) origin ≡ callerOf h) (below : Frame) (f : below ≡ getD callers (h .depth - 1) origin) where
+  ended-stands : Stands (endedHead bytes i h below) callers (cond (ltb 1 (s .depth)) (popped s) (afterCase bytes i s))
+  unfolding endedHead afterCase
+  ended-stands =
+      either-stands callers (ltb 1 (h .depth)) (ltb 1 (s .depth)) (ap (λ (n : ℕ). ltb 1 n) (st .depth)) _ _ _ _
+      (λ l. popped-stands h callers s st (ltb-true 1 (h .depth) l) d below f)
+      (λ l.
+      either-stands callers _ _ (ap (λ (n : ℕ). ltb (n + 1) (i .cases)) (st .case)) _ _ _ _
+      (λ m.
+      subst
+      (λ (c : ℕ).
+      Stands (nextHead h (caseAt bytes (i .first) (h .case + 1) .start)) callers (nextCase s (caseAt bytes (i .first) (c + 1) .start)))
+      (sym (st .case))
+      (next-stands h callers s st _))
+      (λ m. finished-stands h callers s st))
+
+  pub moved-stands : (facts : ℕ) (w : Instruction) → ((procedure : Proc) → w ≡ Call procedure → h .depth < 16)
+      → Stands (movedHead bytes i h below facts w) callers (movedBy bytes i s facts w)
+  unfolding movedHead movedBy gotoHead
+  moved-stands facts Empty room = st
+  moved-stands facts (Act action) room = facts-stand _ callers _ (advanced-stands h callers s st d) facts
+  moved-stands facts (Goto target fact) room =
+      either-stands callers _ _ (ap (λ (x : ℕ). has x fact) (st .facts)) _ _ _ _ (λ l. advanced-stands h callers s st d)
+      (λ l. jumped-stands h callers s st d target)
+  moved-stands facts (Call procedure) room = pushed-stands h callers s st a (room procedure refl) e procedure
+  moved-stands facts End room = ended-stands

@@ -1,0 +1,89 @@
+-- `step::perform::ask` meets its contract: instruction by instruction.
+-- Assumes nothing.
+use mathlib.Core.Path.{refl, _∙_}
+use native.Mathlib.Omega.{arith}
+use Rattle.step.specs.Moved.{performedAs}
+use Rattle.step.proofs.Laws.Answers.{performs-none, performs-act, performs-goto, performs-call, performs-end}
+use borrow.Author.Needs.{needs}
+use Rattle.step.proofs.perform.ask.Statement.{statement}
+use Rattle.step.proofs.perform.ask.Tie as tie
+
+enum-told : tie.Need-enum-told
+enum-told c = search needs
+
+enum-known-w : tie.Need-enum-known-w
+enum-known-w c = search needs
+
+cast-act : tie.Need-cast-act
+cast-act c = search needs
+
+mul-act : tie.Need-mul-act
+mul-act c = search needs
+
+element-copy-out-act : tie.Need-element-copy-out-act
+element-copy-out-act c =
+    let pre = c .before .before .before .before .pre in
+    omega (arith, pre .2 _ (c .before .w .given .1), pre .0 .task .actions)
+
+act-requires : tie.Need-act-requires
+act-requires c κs =
+    let pre = c .before .before .before .before .before .pre in
+    pre .0 .action _ (pre .2 _ (c .before .before .w .given .1))
+
+enum-told-2 : tie.Need-enum-told-2
+enum-told-2 c = search needs
+
+enum-told-3 : tie.Need-enum-told-3
+enum-told-3 c = search needs
+
+call-requires : tie.Need-call-requires
+call-requires c κs = search needs
+
+enum-told-4 : tie.Need-enum-told-4
+enum-told-4 c = search needs
+
+end-requires : tie.Need-end-requires
+end-requires c κs = let pre = c .before .before .before .pre in omega (arith, pre .0 .case, pre .1)
+
+returns : tie.Need-returns
+unfolding performedAs
+returns c s x y z = performs-none _ _ _ s _ (c .enum-told .given .1)
+
+returns-2 : tie.Need-returns-2
+returns-2 c s x y z =
+    let e = c .before .before .before .w .given .1 in
+    rw e (c .act .ensures _ s _ x) ∙ performs-act _ _ _ _ _ _ e
+
+returns-3 : tie.Need-returns-3
+returns-3 c s x y z = performs-goto _ _ _ _ _ _ _ _ (c .enum-told2 .given .1)
+
+returns-4 : tie.Need-returns-4
+returns-4 c s x y z =
+    let e = c .before .enum-told3 .given .1 in
+    rw e (c .call .ensures _ _ s _ z) ∙ performs-call _ _ _ _ _ _ e
+
+returns-5 : tie.Need-returns-5
+returns-5 c s x y z =
+    let e = c .before .enum-told4 .given .1 in
+    rw e (c .end .ensures s x y z) ∙ performs-end _ _ _ _ _ e
+
+pub ask-spec : {M : Type 1} → statement M
+ask-spec =
+    tie.close
+    (tie.spec
+    enum-told
+    enum-known-w
+    cast-act
+    mul-act
+    element-copy-out-act
+    act-requires
+    enum-told-2
+    enum-told-3
+    call-requires
+    enum-told-4
+    end-requires
+    returns
+    returns-2
+    returns-3
+    returns-4
+    returns-5)

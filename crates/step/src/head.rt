@@ -1,0 +1,194 @@
+// What the checker and the writer keep of a position while they run: all but the frames below the top one. Each of those is kept beside
+// it, at the depth at which it called. So a step copies no stack.
+use crate::facts::has;
+use crate::position::Frame;
+use task::index::Index;
+use task::index::case_at;
+use task::instruction::Instruction;
+use task::instruction::Line;
+use task::instruction::Proc;
+ghost use mathlib.Core.Path.{_≡_};
+ghost use Prim.Native.Nat.{_+_, _*_, _≤_, _<_};
+ghost use lib.ListN.{length};
+ghost use Rattle.step.specs.Head.{startingHead, frameOf, callerOf, jumpedHead, advancedHead, pushedHead, poppedHead, headWith, nextHead, finishedHead, countedHead, gotoHead, endedHead, movedHead, Fits};
+
+// A position without the frames below its top one. The facts stand last: so the compiler keeps each field in a register of its own.
+pub struct Head {
+    pub steps: u16,
+    pub case: u8,
+    pub depth: u8,
+    pub procedure: Proc,
+    pub line: Line,
+    pub facts: u64,
+}
+
+impl Head {
+    // The first case from its start.
+    pub fn starting(start: u64) -> Head
+        ensures { λ r. ⌜ r ≡ startingHead start ⌝ }
+    {
+        Head {
+            facts: start,
+            steps: 0,
+            case: 0,
+            depth: 1,
+            procedure: Proc(0),
+            line: Line(0),
+        }
+    }
+
+    // The top frame.
+    pub fn top(self) -> Frame
+        ensures { λ r. ⌜ r ≡ frameOf self ⌝ }
+    {
+        let procedure = self.procedure;
+        let line = self.line;
+        Frame { procedure, line }
+    }
+
+    // The frame to come back to after a call.
+    pub fn caller(self) -> Frame
+        requires { ⌜ self .line .0 < 255 ⌝ }
+        ensures { λ r. ⌜ r ≡ callerOf self ⌝ }
+    {
+        let procedure = self.procedure;
+        let line = Line(self.line.0 + 1);
+        Frame { procedure, line }
+    }
+
+    // The top frame's line becomes another.
+    fn jumped(mut self, line: Line) -> Head
+        ensures { λ r. ⌜ r ≡ jumpedHead self line ⌝ }
+    {
+        self.line = line;
+        self
+    }
+
+    // The top frame's line grows by 1.
+    fn advanced(self) -> Head
+        requires { ⌜ self .line .0 < 255 ⌝ }
+        ensures { λ r. ⌜ r ≡ advancedHead self ⌝ }
+    {
+        self.jumped(Line(self.line.0 + 1))
+    }
+
+    // Line 0 of a procedure is pushed; the caller's frame is kept beside the head.
+    fn pushed(self, procedure: Proc) -> Head
+        requires { ⌜ self .depth < 255 ⌝ }
+        ensures { λ r. ⌜ r ≡ pushedHead self procedure ⌝ }
+    {
+        Head {
+            facts: self.facts,
+            steps: self.steps,
+            case: self.case,
+            depth: self.depth + 1,
+            procedure,
+            line: Line(0),
+        }
+    }
+
+    // The top frame is freed, and the frame below it is the top one.
+    fn popped(self, below: Frame) -> Head
+        requires { ⌜ 0 < self .depth ⌝ }
+        ensures { λ r. ⌜ r ≡ poppedHead self below ⌝ }
+    {
+        let procedure = below.procedure;
+        let line = below.line;
+        Head {
+            facts: self.facts,
+            steps: self.steps,
+            case: self.case,
+            depth: self.depth - 1,
+            procedure,
+            line,
+        }
+    }
+
+    // The facts become others.
+    fn with_facts(mut self, facts: u64) -> Head
+        ensures { λ r. ⌜ r ≡ headWith self facts ⌝ }
+    {
+        self.facts = facts;
+        self
+    }
+
+    // The next case from its start.
+    fn next_case(self, start: u64) -> Head
+        requires { ⌜ self .case < 255 ⌝ }
+        ensures { λ r. ⌜ r ≡ nextHead self start ⌝ }
+    {
+        Head {
+            facts: start,
+            steps: self.steps,
+            case: self.case + 1,
+            depth: 1,
+            procedure: Proc(0),
+            line: Line(0),
+        }
+    }
+
+    // After the last case: no frame, the facts as they are.
+    fn finished(self) -> Head
+        requires { ⌜ self .case < 255 ⌝ }
+        ensures { λ r. ⌜ r ≡ finishedHead self ⌝ }
+    {
+        Head {
+            facts: self.facts,
+            steps: self.steps,
+            case: self.case + 1,
+            depth: 0,
+            procedure: Proc(0),
+            line: Line(0),
+        }
+    }
+
+    // One step more is done.
+    pub fn counted(mut self) -> Head
+        requires { ⌜ self .steps < 65535 ⌝ }
+        ensures { λ r. ⌜ r ≡ countedHead self ⌝ }
+    {
+        self.steps += 1;
+        self
+    }
+
+    // Goto: the next line if the fact is true, else the target.
+    fn goto(self, target: Line, fact: u8) -> Head
+        requires { ⌜ (self .line .0 < 255) × (fact < 64) ⌝ }
+        ensures { λ r. ⌜ r ≡ gotoHead self target fact ⌝ }
+    {
+        if has(self.facts, fact) {
+            return self.advanced();
+        }
+        self.jumped(target)
+    }
+
+    // End: with more than one frame a pop, else the next case or the finish.
+    fn ended(self, task: &[u8], index: Index, below: Frame) -> Head
+        requires { ⌜ (self .case < 255) × (index .first + 28 * index .cases ≤ length (now task)) ⌝ }
+        ensures { λ r. ⌜ r ≡ endedHead (now (task .entry)) index self below ⌝ }
+    {
+        if 1 < self.depth {
+            return self.popped(below);
+        }
+        let next = self.case + 1;
+        if next < index.cases {
+            let case = case_at(task, index.first, next);
+            return self.next_case(case.start);
+        }
+        self.finished()
+    }
+
+    // The head after an instruction that no question turned down, given the facts after an action and the frame below the top one.
+    pub fn moved(self, task: &[u8], index: Index, below: Frame, facts: u64, w: Instruction) -> Head
+        requires { ⌜ Fits self w × (index .first + 28 * index .cases ≤ length (now task)) ⌝ }
+        ensures { λ r. ⌜ r ≡ movedHead (now (task .entry)) index self below facts w ⌝ }
+    {
+        match w {
+            Instruction::Empty => self,
+            Instruction::Act(_) => self.advanced().with_facts(facts),
+            Instruction::Goto(target, fact) => self.goto(target, fact),
+            Instruction::Call(procedure) => self.pushed(procedure),
+            Instruction::End => self.ended(task, index, below),
+        }
+    }
+}
