@@ -3,4 +3,5 @@ pub mod Check
 pub mod Outcome
 pub mod Plan
 pub mod Questions
+pub mod Trace
 pub mod Write

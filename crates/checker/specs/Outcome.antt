@@ -1,19 +1,24 @@
 -- How the checker's and the writer's own answers stand to the definitions. Only contracts of private functions cite it.
-use Prim.Native.Nat.{ℕ, _*_}
+use Prim.Native.Nat.{ℕ, _<_}
 use mathlib.Core.Path.{_≡_}
+use mathlib.Core.Bool.{true}
 use mathlib.Core.List.{List}
-use lib.ListN.{take}
 use Rattle.records.specs.Loop.{Turn, stop, go}
+use Rattle.task.specs.Program.{programVerdict}
 use Rattle.task.specs.Reading.{readTask}
+use Rattle.task.specs.Instruction.{allowed}
+use Rattle.task.specs.declared.index.Index.{Index}
 use Rattle.task.specs.declared.index.Task.{Task}
+use Rattle.task.specs.declared.instruction.Instruction.{Instruction}
 use Rattle.task.specs.declared.verdict.Verdict.{Verdict}
 use Rattle.task.specs.declared.verdict.Verdict.the-variants.{Accepted, Refused}
-use Rattle.step.specs.declared.perform.Stepped.{Stepped}
+use Rattle.step.specs.Moved.{movedBy}
+use Rattle.step.specs.Position.{counted}
+use Rattle.step.specs.Ready.{Room}
+use Rattle.step.specs.declared.head.Head.{Head}
 use Rattle.step.specs.declared.position.Position.{Position}
 use Rattle.checker.specs.Answer.{Result, refused, accepted}
 use Rattle.checker.specs.Check.{State}
-use Rattle.checker.specs.Plan.{planSize}
-use Rattle.checker.specs.Write.{Writing}
 use Rattle.checker.specs.declared.check.Outcome.{Outcome}
 use Rattle.checker.specs.declared.check.Outcome.the-variants.{Next, Stopped, Closed}
 
@@ -27,30 +32,32 @@ pub record ReadAs (bytes : List ℕ) (t : Task) : Type 0 where
 abbrev pub state : ℕ → Position → List ℕ → State
 state at position program = record { at = at; position = position; program = program }
 
--- the turn that an outcome stands for, given the position and the program after it
-unfoldable pub turned : Outcome → Position → List ℕ → Turn State Result
-turned (Next at) position program = go (state at position program)
-turned (Stopped question place) position program = stop (refused question place)
-turned Closed position program = stop (accepted (position .steps) program)
+-- a head at which an instruction may be asked about: a case is open, fewer than S steps are done, and it is allowed on the top frame's line
+pub record Askable (i : Index) (h : Head) (w : Instruction) : Type 0 where
+  pub case : h .case < i .cases
+  pub left : h .steps < i .bounds .steps
+  pub allowed : allowed (i .bounds) (i .actions) (h .line) w ≡ true
+
+-- what is known of a step that no question turns down: that, and room for a call's frame
+unfoldable pub Passes : Index → Head → Outcome → Type 0
+Passes i h (Next next w facts) = Askable i h w × Room i (h .depth) w
+Passes i h (Stopped question place) = Unit {0}
+Passes i h Closed = Unit {0}
+
+-- the turn that an outcome stands for, given the position before it and the program after it
+unfoldable pub turned : List ℕ → Index → Position → Outcome → List ℕ → Turn State Result
+turned bytes i s (Next next w facts) program = go (state next (counted (movedBy bytes i s facts w)) program)
+turned bytes i s (Stopped question place) program = stop (refused question place)
+turned bytes i s Closed program = stop (accepted (s .steps) program)
 
 -- the outcome of a plan, by its verdict and the program at the end
 unfoldable pub followedBy : Verdict → List ℕ → Result
 followedBy (Refused question place) program = refused question place
 followedBy (Accepted steps) program = accepted steps program
 
--- the writer's state, from the three parts that it holds; of the bytes for the plan the first 9 for each step are the records so far
-abbrev pub writing : Position → List ℕ → List ℕ → Writing
-writing position lines bytes = record { position = position; lines = lines; plan = take (9 * position .steps) bytes }
-
--- the turn that the answer to one step stands for, given the lines and the plan's bytes after it
-unfoldable pub wrote : Stepped → List ℕ → List ℕ → Turn Writing Result
-wrote r lines bytes = on (r .verdict)
-  where
-    on : Verdict → Turn Writing Result
-    on (Refused question place) = stop (refused question place)
-    on (Accepted value) = go (writing (r .position) lines bytes)
-
--- what a run comes to, by its verdict and the bytes at the end
-unfoldable pub ranAs : Verdict → List ℕ → Result
-ranAs (Refused question place) bytes = refused question place
-ranAs (Accepted steps) bytes = accepted steps (take (planSize steps) bytes)
+-- a task that passes, whatever its presets, and a program that passes its questions
+pub record RunsOf (bytes : List ℕ) (i : Index) (offsets program : List ℕ) : Type 0 where
+  pub presets : List ℕ
+  pub read : ReadAs bytes (record { index = i; offsets = offsets; presets = presets })
+  pub value : ℕ
+  pub passes : programVerdict i presets program ≡ Accepted value

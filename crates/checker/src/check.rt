@@ -14,12 +14,12 @@ use crate::questions::PLAN_LENGTH;
 use crate::questions::PLAN_RECORD;
 use crate::questions::TOP;
 use bytes::copy;
-use records::numbers::byte_at;
 use records::reader::plan_record;
 use records::record::Found;
-use step::perform::perform;
+use step::head::Head;
+use step::perform::Asked;
+use step::perform::ask;
 use step::position::Frame;
-use step::position::Position;
 use step::questions::STEPS;
 use task::bounds::line_count;
 use task::index::Index;
@@ -30,8 +30,8 @@ use task::instruction::Line;
 use task::instruction::Proc;
 use task::instruction::Triple;
 use task::instruction::decode_for;
-use task::instruction::encode;
 use task::instruction::put_triple;
+use task::instruction::three_at;
 use task::instruction::triple_at;
 use task::program::line_offset;
 use task::reading::read_task;
@@ -41,28 +41,25 @@ ghost use mathlib.Core.Bool.{true};
 ghost use Prim.Native.Nat.{ℕ, _+_, _≤_, _<_};
 ghost use mathlib.Core.List.{List};
 ghost use lib.ListN.{length};
-ghost use Rattle.task.specs.Instruction.{allowed};
+ghost use Rattle.task.specs.Instruction.{allowed, encode};
+ghost use Rattle.step.specs.Head.{Stands};
 ghost use Rattle.step.specs.Position.{sameFrame};
-ghost use Rattle.step.specs.Possible.{possible};
-ghost use Rattle.step.specs.Ready.{Bounded, Ready};
+ghost use Rattle.step.specs.Ready.{Held};
 ghost use Rattle.step.specs.Perform.{perform};
+ghost use Rattle.step.specs.declared.head.Head.{Head};
+ghost use Rattle.step.specs.declared.position.Frame.{Frame};
+ghost use Rattle.step.specs.declared.position.Position.{Position};
 ghost use Rattle.checker.specs.Answer.{filled};
 ghost use Rattle.checker.specs.Check.{lineFits, written, onMove, onStep, stepTurn, closeTurn, turnOf, follow, check};
-ghost use Rattle.checker.specs.Outcome.{ReadAs, state, turned, followedBy};
+ghost use Rattle.checker.specs.Outcome.{ReadAs, Askable, Passes, state, turned, followedBy};
 ghost use Rattle.checker.specs.Plan.{instructionOf, isKind, lengthFits};
-ghost use Rattle.checker.specs.declared.check.Outcome.the-variants.{Stopped};
 
-// What one record leads to: the next one's offset, a question that says no and its place, or the end of the plan.
+// What one record leads to: a step that no question turns down, with the next record's offset, its instruction and the facts after an action; a
+// question that says no and its place; or the end of the plan.
 pub enum Outcome {
-    Next(usize),
+    Next(usize, Instruction, u64),
     Stopped(u8, usize),
     Closed,
-}
-
-// An outcome, and the position after it.
-pub struct Turned {
-    pub outcome: Outcome,
-    pub position: Position,
 }
 
 // Question 12.
@@ -86,45 +83,35 @@ fn same_frame(f: Frame, g: Frame) -> bool
     (f.procedure.0 == g.procedure.0) & (f.line.0 == g.line.0)
 }
 
-// Question 18, given the three bytes on the step's line.
-fn line_fits(held: Triple, step: Step) -> bool
+// Question 18, given the three bytes on the step's line and those of its instruction.
+fn line_fits(held: Triple, step: Step, w: Triple) -> bool
+    requires { ⌜ w ≡ encode (instructionOf step) ⌝ }
     ensures { λ r. ⌜ r ≡ lineFits held step ⌝ }
 {
     match step {
         Step::Write(_) => held.op == 0,
-        Step::Repeat(w) => {
-            let same = encode(w);
-            (held.op == same.op) & (held.p == same.p) & (held.q == same.q)
-        }
+        Step::Repeat(_) => (held.op == w.op) & (held.p == w.p) & (held.q == w.q),
     }
 }
 
-// Fills a step's line, if the step writes it.
-pub(crate) fn write_line(program: &mut [u8], at: usize, step: Step)
+// Fills a step's line with its instruction's three bytes, if the step writes it.
+pub(crate) fn write_line(program: &mut [u8], at: usize, step: Step, w: Triple)
+    requires { ⌜ w ≡ encode (instructionOf step) ⌝ }
     ensures { λ _. ⌜ now (program .exit) ≡ written (now (program .entry)) at step ⌝ }
 {
     match step {
-        Step::Write(w) => put_triple(program, at, encode(w)),
+        Step::Write(_) => put_triple(program, at, w),
         Step::Repeat(_) => {}
     }
 }
 
-// The plan is turned down.
-fn stopped(question: u8, place: usize, position: Position) -> Turned
-    ensures { λ r. ⌜ r ≡ record { outcome = Stopped question place; position = position } ⌝ }
-{
-    Turned {
-        outcome: Outcome::Stopped(question, place),
-        position,
-    }
-}
-
 // The closing record: questions 23 and 24.
-fn close(index: Index, plan: &[u8], at: usize, position: Position, next: usize) -> Outcome
-    ensures { λ r. ⌜ ((program : List ℕ) →
-        turned r position program ≡ closeTurn index (now (plan .entry)) (state at position program) next) ⌝ }
+fn close(index: Index, plan: &[u8], at: usize, case: u8, next: usize) -> Outcome
+    ensures { λ r. ⌜ ((bytes program : List ℕ) (s : Position) →
+        s .case ≡ case → turned bytes index s r program ≡ closeTurn index (now (plan .entry)) (state at s program) next)
+        × ((h : Head) → Passes index h r) ⌝ }
 {
-    if position.case != index.cases {
+    if case != index.cases {
         return Outcome::Stopped(FINISHED, at);
     }
     if next != plan.len() {
@@ -139,67 +126,60 @@ fn make_step(
     index: Index,
     offsets: &[usize; 64],
     at: usize,
-    position: Position,
+    head: Head,
     next: usize,
     w: Instruction,
-) -> Turned
-    requires { ⌜ Ready index position w ⌝ }
-    ensures { λ r. ⌜ ((program : List ℕ) →
-        turned (r .outcome) (r .position) program
-        ≡ onMove at next program (perform (now (task .entry)) index (now (offsets .entry)) position w)) ⌝ }
+) -> Outcome
+    requires { ⌜ Held (now task) index (now offsets) × Askable index head w ⌝ }
+    ensures { λ r. ⌜ ((program : List ℕ) (callers : List Frame) (s : Position) →
+        Stands head callers s
+        → turned (now (task .entry)) index s r program
+        ≡ onMove at next program (perform (now (task .entry)) index (now (offsets .entry)) s w))
+        × Passes index head r ⌝ }
 {
-    let stepped = perform(task, index, offsets, position, w);
-    let verdict = stepped.verdict;
-    let position = stepped.position;
-    match verdict {
-        Verdict::Accepted { value: _ } => Turned {
-            outcome: Outcome::Next(next),
-            position,
-        },
-        Verdict::Refused { question, place: _ } => stopped(question, at, position),
+    let asked = ask(task, index, offsets, head.facts, head.case, head.depth, w);
+    match asked {
+        Asked::No(question) => Outcome::Stopped(question, at),
+        Asked::Facts(facts) => Outcome::Next(next, w, facts),
     }
 }
 
-// A step at a frame: questions 16 to 22. A write fills its line.
+// A step at a frame, with its instruction's three bytes: questions 16 to 22. A write fills its line.
 fn take_step(
     task: &[u8],
     index: Index,
     offsets: &[usize; 64],
     at: usize,
-    position: Position,
+    head: Head,
     next: usize,
     frame: Frame,
     step: Step,
+    w: Triple,
     program: &mut [u8],
-) -> Turned
-    requires { ⌜ Bounded index × (possible index position ≡ true) × (position .steps < index .bounds .steps)
-        × (allowed (index .bounds) (index .actions) (frame .line) (instructionOf step) ≡ true) ⌝ }
-    ensures { λ r. ⌜
-        turned (r .outcome) (r .position) (now (program .exit))
-        ≡ onStep (now (task .entry)) index (now (offsets .entry)) (state at position (now (program .entry))) next frame step ⌝ }
+) -> Outcome
+    requires { ⌜ Held (now task) index (now offsets) × (head .steps < index .bounds .steps)
+        × (allowed (index .bounds) (index .actions) (frame .line) (instructionOf step) ≡ true)
+        × (w ≡ encode (instructionOf step)) ⌝ }
+    ensures { λ r. ⌜ ((callers : List Frame) (s : Position) →
+        Stands head callers s
+        → turned (now (task .entry)) index s r (now (program .exit))
+        ≡ onStep (now (task .entry)) index (now (offsets .entry)) (state at s (now (program .entry))) next frame step)
+        × Passes index head r ⌝ }
 {
-    if index.cases <= position.case {
-        return stopped(OPEN, at, position);
+    if index.cases <= head.case {
+        return Outcome::Stopped(OPEN, at);
     }
-    if !same_frame(frame, position.top()) {
-        return stopped(TOP, at, position);
+    if !same_frame(frame, head.top()) {
+        return Outcome::Stopped(TOP, at);
     }
     let procedure = frame.procedure;
     let line = frame.line;
     let offset = line_offset(index.bounds, procedure, line);
-    if !line_fits(triple_at(program, offset), step) {
-        return stopped(LINE, at, position);
+    if !line_fits(triple_at(program, offset), step, w) {
+        return Outcome::Stopped(LINE, at);
     }
-    write_line(program, offset, step);
-    make_step(
-        task,
-        index,
-        offsets,
-        at,
-        position,
-        next,
-        instruction_of(step),
-    )
+    write_line(program, offset, step, w);
+    make_step(task, index, offsets, at, head, next, instruction_of(step))
 }
 
 // A step's record: questions 14 to 22.
@@ -209,35 +189,37 @@ fn follow_step(
     offsets: &[usize; 64],
     plan: &[u8],
     at: usize,
-    position: Position,
+    head: Head,
     kind: u16,
     body: usize,
     next: usize,
     program: &mut [u8],
-) -> Turned
-    requires { ⌜ Bounded index × (possible index position ≡ true) × (body + 5 ≤ length (now plan)) ⌝ }
-    ensures { λ r. ⌜
-        turned (r .outcome) (r .position) (now (program .exit))
+) -> Outcome
+    requires { ⌜ Held (now task) index (now offsets) × (body + 5 ≤ length (now plan)) ⌝ }
+    ensures { λ r. ⌜ ((callers : List Frame) (s : Position) →
+        Stands head callers s
+        → turned (now (task .entry)) index s r (now (program .exit))
         ≡ stepTurn
         (now (task .entry))
         index
         (now (offsets .entry))
-        (state at position (now (program .entry)))
+        (state at s (now (program .entry)))
         (now (plan .entry))
         kind
         body
-        next ⌝ }
+        next)
+        × Passes index head r ⌝ }
 {
     let bounds = index.bounds;
-    if bounds.steps <= position.steps {
-        return stopped(STEPS, at, position);
+    if bounds.steps <= head.steps {
+        return Outcome::Stopped(STEPS, at);
     }
-    let procedure = byte_at(plan, body);
-    let line = byte_at(plan, body + 1);
-    let triple = triple_at(plan, body + 2);
+    let procedure = plan[body];
+    let line = plan[body + 1];
+    let triple = three_at(plan, body + 2);
     let decoded = decode_for(bounds, index.actions, Proc(procedure), Line(line), triple);
     let Decoded::Is(w) = decoded else {
-        return stopped(ALLOWED, at, position);
+        return Outcome::Stopped(ALLOWED, at);
     };
     let frame = Frame {
         procedure: Proc(procedure),
@@ -248,10 +230,11 @@ fn follow_step(
         index,
         offsets,
         at,
-        position,
+        head,
         next,
         frame,
         step_of(kind, w),
+        triple,
         program,
     )
 }
@@ -263,18 +246,20 @@ fn follow_record(
     offsets: &[usize; 64],
     plan: &[u8],
     at: usize,
-    position: Position,
+    head: Head,
     program: &mut [u8],
-) -> Turned
-    requires { ⌜ Bounded index × (possible index position ≡ true) ⌝ }
-    ensures { λ r. ⌜
-        turned (r .outcome) (r .position) (now (program .exit))
+) -> Outcome
+    requires { ⌜ Held (now task) index (now offsets) ⌝ }
+    ensures { λ r. ⌜ ((callers : List Frame) (s : Position) →
+        Stands head callers s
+        → turned (now (task .entry)) index s r (now (program .exit))
         ≡ turnOf
         (now (task .entry))
         index
         (now (offsets .entry))
         (now (plan .entry))
-        (state at position (now (program .entry))) ⌝ }
+        (state at s (now (program .entry))))
+        × Passes index head r ⌝ }
 {
     let found = plan_record(plan, at);
     let Found::Record {
@@ -284,17 +269,16 @@ fn follow_record(
         next,
     } = found
     else {
-        return stopped(PLAN_RECORD, at, position);
+        return Outcome::Stopped(PLAN_RECORD, at);
     };
     if !is_kind(kind) {
-        return stopped(PLAN_KIND, at, position);
+        return Outcome::Stopped(PLAN_KIND, at);
     }
     if !length_fits(kind, length) {
-        return stopped(PLAN_LENGTH, at, position);
+        return Outcome::Stopped(PLAN_LENGTH, at);
     }
     if kind == 5 {
-        let outcome = close(index, plan, at, position, next);
-        return Turned { outcome, position };
+        return close(index, plan, at, head.case, next);
     }
     follow_step(
         task,
@@ -302,7 +286,7 @@ fn follow_record(
         offsets,
         plan,
         at,
-        position,
+        head,
         kind,
         body,
         next,
@@ -310,7 +294,8 @@ fn follow_record(
     )
 }
 
-// The whole plan: its verdict, and in `program`, which has the preset lines at first, those that its steps wrote too.
+// The whole plan: its verdict, and in `program`, which has the preset lines at first, those that its steps wrote too. Each frame that may be
+// come back to is kept in `callers`, at its depth.
 fn follow(
     task: &[u8],
     index: Index,
@@ -325,13 +310,20 @@ fn follow(
 {
     let first = case_at(task, index.first, 0);
     let mut at = 0;
-    let mut position = Position::starting(0, first.start);
+    let mut head = Head::starting(first.start);
+    let mut callers = [Frame {
+        procedure: Proc(0),
+        line: Line(0),
+    }; 17];
     loop {
-        let turn = follow_record(task, index, offsets, plan, at, position, program);
-        position = turn.position;
-        let outcome = turn.outcome;
+        let outcome = follow_record(task, index, offsets, plan, at, head, program);
         match outcome {
-            Outcome::Next(next) => {
+            Outcome::Next(next, w, facts) => {
+                let depth = head.depth as usize;
+                callers[depth] = head.caller();
+                let below = callers[depth - 1];
+                let moved = head.moved(task, index, below, facts, w);
+                head = moved.counted();
                 at = next;
             }
             Outcome::Stopped(question, place) => {
@@ -339,7 +331,7 @@ fn follow(
             }
             Outcome::Closed => {
                 return Verdict::Accepted {
-                    value: position.steps as usize,
+                    value: head.steps as usize,
                 };
             }
         }
@@ -347,7 +339,7 @@ fn follow(
 }
 
 // Fills the buffer's first bytes with those of a program or a plan.
-pub(crate) fn fill(buffer: &mut [u8], size: usize, from: &[u8])
+fn fill(buffer: &mut [u8], size: usize, from: &[u8])
     requires { ⌜ (size ≤ length (now buffer)) × (size ≤ length (now from)) ⌝ }
     ensures { λ _. ⌜ now (buffer .exit) ≡ filled size (now (from .entry)) (now (buffer .entry)) ⌝ }
 {

@@ -3,4 +3,5 @@
 pub mod check;
 pub mod plan;
 pub mod questions;
+mod trace;
 pub mod write;

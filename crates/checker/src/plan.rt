@@ -1,8 +1,9 @@
 // A plan's steps, and the bytes of their records.
 use step::position::Frame;
 use task::instruction::Instruction;
-use task::instruction::encode;
+use task::instruction::Triple;
 ghost use mathlib.Core.Path.{_≡_};
+ghost use Rattle.task.specs.Instruction.{encode};
 ghost use Rattle.checker.specs.Plan.{instructionOf, kindOf, stepOf, recordOf};
 
 // A step writes an instruction on a line and runs it, or repeats the one that is there.
@@ -42,11 +43,11 @@ fn kind_of(step: Step) -> u8
     }
 }
 
-// The bytes of a step's record.
-pub(crate) fn record_of(frame: Frame, step: Step) -> [u8; 9]
+// The bytes of a step's record, given those of its instruction.
+pub(crate) fn record_of(frame: Frame, step: Step, w: Triple) -> [u8; 9]
+    requires { ⌜ w ≡ encode (instructionOf step) ⌝ }
     ensures { λ r. ⌜ r ≡ recordOf (record { frame = frame; step = step }) ⌝ }
 {
-    let w = encode(instruction_of(step));
     [
         5,
         0,

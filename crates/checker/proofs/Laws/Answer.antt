@@ -9,7 +9,7 @@ use native.Mathlib.Nat.{mul-le-mul}
 use native.Mathlib.Omega.{arith}
 use lib.ListN.{length, take, drop}
 use lib.Dec.{leb}
-use lib.Seq.{length-take-le, take-length, take-take}
+use lib.Seq.{length-take-le, take-length}
 use borrow.Author.Tests.{le-leb, lt-leb}
 use Rattle.task.specs.Bounds.{inRange, lineCount, programSize}
 use Rattle.task.specs.Program.{programVerdict}
@@ -20,13 +20,15 @@ use Rattle.task.specs.declared.verdict.Verdict.{Verdict}
 use Rattle.task.specs.declared.verdict.Verdict.the-variants.{Accepted, Refused}
 use Rattle.task.proofs.Laws.Bounds.{ranges}
 use Rattle.task.proofs.Laws.Passed.{passed}
+use Rattle.task.proofs.Laws.Program.{program-passes}
 use Rattle.checker.specs.Answer.{Answer, refused, passing, filled, answer}
 use Rattle.checker.specs.Check.{follow, check}
-use Rattle.checker.specs.Outcome.{followedBy, ranAs}
-use Rattle.checker.specs.Plan.{planSize}
+use Rattle.checker.specs.Outcome.{ReadAs, followedBy, RunsOf}
+use Rattle.checker.specs.Plan.{closing, planSize}
 use Rattle.checker.specs.Questions.{BUFFER, PLAN-BUFFER}
+use Rattle.checker.specs.Trace.{Spelled, recordsAfter, tracedAs, SpelledTo}
 use Rattle.checker.specs.Write.{run, programResult, onFinish, write}
-use Rattle.checker.proofs.Laws.Write.{run-within}
+use Rattle.checker.proofs.Laws.Turns.{read-passed}
 
 -- a program has at most 768 bytes
 pub size-most : (b : Bounds) → inRange b ≡ true → programSize b ≤ 768
@@ -87,16 +89,27 @@ module _ (bytes plan buffer : List ℕ) (r : Reading) (e : r ≡ readTask bytes)
       unfolding answer followedBy
       plan-accepted steps k after g = rw (k, g) (rw k at answered)
 
--- a plan has at most 36868 bytes: 9 for each of 4096 steps, and the closing record
-pub plan-most : (bytes program : List ℕ) (r : Reading) → r ≡ readTask bytes → (value : ℕ) → r .verdict ≡ Accepted value
-    → (u : Verdict) (plan : List ℕ) → ranAs u plan ≡ run bytes (r .task) program → (steps : ℕ) → u ≡ Accepted steps → 9 * steps + 4 ≤ 36868
-unfolding ranAs
-plan-most bytes program r e value h u plan f steps d =
-    let p = passed bytes value (sym (ap (λ (x : Reading). x .verdict) e) ∙ h) in
-    let t = ap (λ (x : Reading). x .task) e in
-    let ran = rw d at f in
-    let few = rw (← ran) at (run-within bytes (r .task .index) (r .task .offsets) program (r .task .presets)) in
-    omega (arith, rw (← t) at (ranges _ (p .bounded) .steps), few)
+-- a task that passes and a program that passes: what the run requires, and the preset program has room for the program's lines
+module _ (bytes program : List ℕ) (r : Reading) (e : r ≡ readTask bytes) (value : ℕ) (h : r .verdict ≡ Accepted value) (v : Verdict)
+    (ev : v ≡ programVerdict (r .task .index) (r .task .presets) program) (zero : ℕ) (k : v ≡ Accepted zero) where
+  was-read : ReadAs bytes (r .task)
+  was-read =
+      record { value = value; verdict = sym (ap (λ (x : Reading). x .verdict) e) ∙ h; task = sym (ap (λ (x : Reading). x .task) e) }
+
+  pub runs-of : RunsOf bytes (r .task .index) (r .task .offsets) program
+  runs-of = record { presets = r .task .presets; read = was-read; value = zero; passes = sym ev ∙ k }
+
+  pub presets-room : length program ≤ length (r .task .presets)
+  presets-room =
+      let p = read-passed bytes (r .task) was-read in
+      let size = program-passes (r .task .index) (r .task .presets) program zero (sym ev ∙ k) .size in
+      omega (arith, size, size-most _ (p .bounded), p .presets)
+
+-- a run that is accepted has at most 4096 steps, and their lines spell instructions
+pub accepted-spelled : (b : Bounds) (program trace : List ℕ) (u : Verdict) → SpelledTo b program trace u → (steps : ℕ) → u ≡ Accepted steps
+    → Spelled b program trace steps × (steps ≤ 4096)
+unfolding SpelledTo
+accepted-spelled b program trace u h steps d = rw d at h
 
 module _ (bytes program buffer : List ℕ) (r : Reading) (e : r ≡ readTask bytes) where
   on-task : onFinish buffer (passing (r .verdict) (passing (programVerdict (r .task .index) (r .task .presets) program) (run bytes (r .task) program)))
@@ -120,26 +133,26 @@ module _ (bytes program buffer : List ℕ) (r : Reading) (e : r ≡ readTask byt
     unfolding passing onFinish answer
     program-refused question place k = rw k (rw k at on-program)
 
-    -- `u` and `plan` are what the run came to
-    module _ (zero : ℕ) (k : v ≡ Accepted zero) (u : Verdict) (plan : List ℕ) (f : ranAs u plan ≡ run bytes (r .task) program) where
-      on-run : onFinish buffer (ranAs u plan) ≡ write bytes program buffer
+    -- `u` is the run's verdict, and `trace` has its steps
+    module _ (zero : ℕ) (k : v ≡ Accepted zero) (u : Verdict) (trace : List ℕ)
+        (f : tracedAs (r .task .index .bounds) program (r .task .presets) trace u ≡ run bytes (r .task) program) where
+      on-run : onFinish buffer (tracedAs (r .task .index .bounds) program (r .task .presets) trace u) ≡ write bytes program buffer
       unfolding passing
       on-run = rw f (rw k at on-program)
 
       pub run-refused : (question place : ℕ) → u ≡ Refused question place
           → _≡_ {A = Answer} (record { verdict = u; buffer = buffer }) (write bytes program buffer)
-      unfolding ranAs onFinish answer
+      unfolding tracedAs onFinish answer
       run-refused question place d = rw d (rw d at on-run)
 
       module _ (steps : ℕ) (d : u ≡ Accepted steps) where
         pub buffer-small : length buffer < 9 * steps + 4
             → _≡_ {A = Answer} (record { verdict = Refused PLAN-BUFFER (9 * steps + 4); buffer = buffer }) (write bytes program buffer)
-        unfolding ranAs planSize onFinish answer
+        unfolding tracedAs planSize onFinish answer
         buffer-small l = rw (d, lt-leb (9 * steps + 4) (length buffer) l) at on-run
 
-        pub plan-written : 9 * steps + 4 ≤ length buffer → (after : List ℕ) → after ≡ filled (9 * steps + 4) plan buffer
+        pub plan-written : 9 * steps + 4 ≤ length buffer → (after : List ℕ)
+            → after ≡ filled (planSize steps) (recordsAfter (r .task .index .bounds) program (r .task .presets) trace steps ++ closing) buffer
             → _≡_ {A = Answer} (record { verdict = Accepted steps; buffer = after }) (write bytes program buffer)
-        unfolding ranAs planSize onFinish answer filled
-        plan-written room after g =
-            rw g
-            (rw (d, le-leb (9 * steps + 4) (length buffer) room, take-take (9 * steps + 4) (9 * steps + 4) plan (omega arith)) at on-run)
+        unfolding tracedAs planSize onFinish answer
+        plan-written room after g = rw g (rw (d, le-leb (9 * steps + 4) (length buffer) room) at on-run)

@@ -2,9 +2,9 @@
 -- with an offset, a position and a program.
 -- Assumes nothing.
 use Prim.Native.Nat.{ℕ, _+_, _≤_, _<_}
-use mathlib.Core.Path.{_≡_, refl, sym, _∙_}
+use mathlib.Core.Path.{_≡_, refl, sym, ap, _∙_}
 use mathlib.Core.Bool.{Bool, true, false}
-use mathlib.Core.List.{List}
+use mathlib.Core.List.{List, []}
 use lib.Dec.{eqb}
 use lib.ListN.{length}
 use native.Mathlib.Omega.{arith}
@@ -17,31 +17,35 @@ use Rattle.records.specs.declared.record.Found.the-variants.{Record, Missing}
 use Rattle.records.proofs.Laws.Loop.{ask-yes, ask-no}
 use Rattle.records.proofs.Laws.Record.{record-ends}
 use Rattle.records.proofs.Laws.Tests.{both-true, cond-either, cond-yes, cond-no}
-use Rattle.task.specs.Instruction.{allowed, decodeFor, tripleAt}
-use Rattle.task.specs.Program.{lineOffset}
+use Rattle.task.specs.Instruction.{allowed, encode, decodeFor, tripleAt, withTriple}
+use Rattle.task.specs.Program.{lineOffset, sameTriple}
 use Rattle.task.specs.declared.index.Index.{Index}
 use Rattle.task.specs.declared.instruction.Decoded.{Decoded}
 use Rattle.task.specs.declared.instruction.Decoded.the-variants.{Is, Nothing}
 use Rattle.task.specs.declared.instruction.Instruction.{Instruction}
+use Rattle.task.specs.declared.instruction.Instruction.the-variants.{Act}
 use Rattle.task.specs.declared.instruction.Triple.{Triple}
-use Rattle.task.specs.declared.verdict.Verdict.the-variants.{Accepted, Refused}
-use Rattle.task.proofs.Laws.Verdict.{refused-accepted}
-use Rattle.step.specs.Perform.{perform, unchanged, answered}
+use Rattle.task.proofs.Laws.Instruction.{Allowed, allows}
+use Rattle.step.specs.declared.head.Head.{Head}
+use Rattle.step.specs.Perform.{perform}
 use Rattle.step.specs.Position.{sameFrame, top}
-use Rattle.step.specs.Possible.{possible}
 use Rattle.step.specs.Questions.{STEPS}
-use Rattle.step.specs.Ready.{Bounded, Open, Ready}
-use Rattle.step.specs.declared.perform.Stepped.{Stepped}
+use Rattle.step.specs.Ready.{Known, Room}
+use Rattle.step.specs.Head.{frameOf}
+use Rattle.step.specs.Moved.{performedAs}
+use Rattle.step.specs.declared.perform.Asked.{Asked}
+use Rattle.step.specs.declared.perform.Asked.the-variants.{No, Facts}
 use Rattle.step.specs.declared.position.Frame.{Frame}
 use Rattle.step.specs.declared.position.Position.{Position}
-use Rattle.step.proofs.Laws.Possible.{parts, case-open}
+use Rattle.step.proofs.Laws.Moved.{asked-no, asked-moves, asked-room}
 use Rattle.checker.specs.Answer.{Result}
 use Rattle.checker.specs.Check.{lineFits, written, onMove, onStep, onDecoded, stepTurn, closeTurn, onRecord, turnOf}
-use Rattle.checker.specs.Outcome.{state, turned}
+use Rattle.checker.specs.Outcome.{Askable, state, turned}
 use Rattle.checker.specs.Plan.{instructionOf, stepOf, isKind, lengthFits, frameAt}
 use Rattle.checker.specs.Questions.{PLAN-RECORD, PLAN-KIND, PLAN-LENGTH, ALLOWED, OPEN, TOP, LINE, FINISHED, PLAN-CLOSED}
 use Rattle.checker.specs.declared.check.Outcome.the-variants.{Next, Stopped, Closed}
 use Rattle.checker.specs.declared.plan.Step.{Step}
+use Rattle.checker.specs.declared.plan.Step.the-variants.{Write, Repeat}
 
 -- frames with the same procedure and the same line are the same
 pub frame-is : {f g : Frame} → f .procedure .0 ≡ g .procedure .0 → f .line .0 ≡ g .line .0 → f ≡ g
@@ -59,71 +63,83 @@ pub step-instruction : (kind : ℕ) (w : Instruction) → instructionOf (stepOf 
 unfolding instructionOf stepOf
 step-instruction kind w = cond-either (λ (x : Step). instructionOf x ≡ w) (eqb kind 16) _ _ (λ h. refl) (λ h. refl)
 
-module _ (i : Index) (p : Position) (task : Bounded i) (h : possible i p ≡ true) where
-  -- with a case open, a possible position has a frame
-  pub position-open : p .case < i .cases → Open i p
-  position-open o =
-      record { task = task; possible = h; unfinished = case-open i p (parts i p h .depth) (omega arith) }
+-- question 18 of a repeat, and the line of a step, by the instruction's three bytes `w`
+module _ (step : Step) (v : Instruction) (w : Triple) (k : w ≡ encode (instructionOf step)) where
+  pub line-repeats : step ≡ Repeat v → (held : Triple) → sameTriple held w ≡ lineFits held step
+  unfolding lineFits instructionOf
+  line-repeats e held = rw e (ap (sameTriple held) (rw e at k))
 
-  -- a step that questions 14 to 17 let pass can be performed
-  pub step-ready : p .case < i .cases → p .steps < i .bounds .steps → (f g : Frame) → g ≡ top p → (m : Bool) → m ≡ sameFrame f g → m ≡ true
-      → (step : Step) → allowed (i .bounds) (i .actions) (f .line) (instructionOf step) ≡ true → (w : Instruction) → w ≡ instructionOf step → Ready i p w
-  step-ready o few f g e m d y step a w ew =
-      let same : f ≡ top p = same-frame f g (sym d ∙ y) ∙ e in
-      record { standing = position-open o; left = few; allowed = rw (ew, ← same) a }
+  pub line-written : step ≡ Write v → (program : List ℕ) (at : ℕ) → withTriple program at w ≡ written program at step
+  unfolding written instructionOf
+  line-written e program at = rw e (ap (withTriple program at) (rw e at k))
+
+-- an instruction on the top frame's line that questions 14 to 17 let pass may be asked about
+pub step-askable : (i : Index) (h : Head) → h .case < i .cases → h .steps < i .bounds .steps → (f g : Frame) → g ≡ frameOf h → (m : Bool)
+    → m ≡ sameFrame f g → m ≡ true → (step : Step) → allowed (i .bounds) (i .actions) (f .line) (instructionOf step) ≡ true
+    → (w : Instruction) → w ≡ instructionOf step → Askable i h w
+unfolding frameOf
+step-askable i h o few f g e m d y step a w ew =
+    let line : f .line ≡ h .line = ap (λ (x : Frame). x .line) (same-frame f g (sym d ∙ y) ∙ e) in
+    record { case = o; left = few; allowed = rw (ew, ← line) a }
 
 -- the closing record
-module _ (i : Index) (plan : List ℕ) (at : ℕ) (p : Position) (program : List ℕ) (next : ℕ) where
-  pub cases-left : (p .case ≡ i .cases → ⊥) → turned (Stopped FINISHED at) p program ≡ closeTurn i plan (state at p program) next
+module _ (bytes : List ℕ) (i : Index) (plan : List ℕ) (at : ℕ) (p : Position) (program : List ℕ) (next : ℕ) where
+  pub cases-left : (p .case ≡ i .cases → ⊥) → turned bytes i p (Stopped FINISHED at) program ≡ closeTurn i plan (state at p program) next
   unfolding turned closeTurn
   cases-left h = ask-no _ _ _ (ne-eqb (p .case) (i .cases) h)
 
   module _ (h : p .case ≡ i .cases) where
-    pub bytes-left : (next ≡ length plan → ⊥) → turned (Stopped PLAN-CLOSED next) p program ≡ closeTurn i plan (state at p program) next
+    pub bytes-left : (next ≡ length plan → ⊥) → turned bytes i p (Stopped PLAN-CLOSED next) program ≡ closeTurn i plan (state at p program) next
     unfolding turned closeTurn
     bytes-left n = ask-no _ _ _ (ne-eqb next (length plan) n) ∙ ask-yes _ _ _ (eq-eqb (p .case) (i .cases) h)
 
-    pub closes : next ≡ length plan → turned Closed p program ≡ closeTurn i plan (state at p program) next
+    pub closes : next ≡ length plan → turned bytes i p Closed program ≡ closeTurn i plan (state at p program) next
     unfolding turned closeTurn
     closes n = ask-yes _ _ _ (eq-eqb next (length plan) n) ∙ ask-yes _ _ _ (eq-eqb (p .case) (i .cases) h)
 
 -- an instruction's own answer `r`
-module _ (bytes : List ℕ) (i : Index) (offsets : List ℕ) (at next : ℕ) (p : Position) (program : List ℕ) (w : Instruction) (r : Stepped)
-    (e : r ≡ answered p (perform bytes i offsets p w)) where
-  pub step-made : (value : ℕ) → r .verdict ≡ Accepted value
-      → turned (Next next) (r .position) program ≡ onMove at next program (perform bytes i offsets p w)
-  unfolding turned onMove answered unchanged
-  step-made value h = by (perform bytes i offsets p w) e
-    where
-      by : (u : Turn Position ℕ) → r ≡ answered p u → turned (Next next) (r .position) program ≡ onMove at next program u
-      by (stop question) f = absurd (refused-accepted (rw f at h))
-      by (go position) f = rw f refl
+module _ (bytes : List ℕ) (i : Index) (offsets : List ℕ) (at next : ℕ) (p : Position) (program : List ℕ) (w : Instruction) (r : Asked)
+    (e : performedAs bytes i p w r ≡ perform bytes i offsets p w) where
+  pub step-refused : (question : ℕ) → r ≡ No question
+      → turned bytes i p (Stopped question at) program ≡ onMove at next program (perform bytes i offsets p w)
+  unfolding turned onMove
+  step-refused question h = ap (onMove at next program) (asked-no bytes i offsets p w r e question h)
 
-  pub step-refused : (question place : ℕ) → r .verdict ≡ Refused question place
-      → turned (Stopped question at) (r .position) program ≡ onMove at next program (perform bytes i offsets p w)
-  unfolding turned onMove answered unchanged
-  step-refused question place h = by (perform bytes i offsets p w) e
-    where
-      by : (u : Turn Position ℕ) → r ≡ answered p u → turned (Stopped question at) (r .position) program ≡ onMove at next program u
-      by (stop q) f = let k : Refused q (p .steps) ≡ Refused question place = rw f at h in cc
-      by (go position) f = absurd (refused-accepted (sym (rw f at h)))
+  pub step-made : (facts : ℕ) → r ≡ Facts facts
+      → turned bytes i p (Next next w facts) program ≡ onMove at next program (perform bytes i offsets p w)
+  unfolding turned onMove
+  step-made facts h = ap (onMove at next program) (asked-moves bytes i offsets p w r e facts h)
+
+-- an instruction that is allowed names one of the task's actions
+pub askable-known : (i : Index) (h : Head) (w : Instruction) → Askable i h w → Known i w
+askable-known i h w a action e =
+    let there : Allowed (i .bounds) (i .actions) (h .line) (Act action) = rw e at (allows (i .bounds) (i .actions) (h .line) w (a .allowed)) in
+    there .1
+
+-- a call that question 21 lets pass has room for its frame: of any position with these facts, this case and this depth
+pub made-room : (bytes : List ℕ) (i : Index) (offsets : List ℕ) (facts case depth : ℕ) (w : Instruction) (r : Asked)
+    → ((s : Position) → s .facts ≡ facts → s .case ≡ case → s .depth ≡ depth → performedAs bytes i s w r ≡ perform bytes i offsets s w)
+    → (after : ℕ) → r ≡ Facts after → Room i depth w
+made-room bytes i offsets facts case depth w r e =
+    let s : Position = record { facts = facts; steps = 0; case = case; depth = depth; frames = [] } in
+    asked-room bytes i offsets s w r (e s refl refl refl)
 
 module _ (bytes : List ℕ) (i : Index) (offsets : List ℕ) (at : ℕ) (p : Position) (program : List ℕ) (next : ℕ) where
   -- a step at a frame `f`: `g` is the top frame, `m` says whether they are the same
   module _ (f : Frame) (step : Step) where
-    pub none-open : i .cases ≤ p .case → turned (Stopped OPEN at) p program ≡ onStep bytes i offsets (state at p program) next f step
+    pub none-open : i .cases ≤ p .case → turned bytes i p (Stopped OPEN at) program ≡ onStep bytes i offsets (state at p program) next f step
     unfolding turned onStep
     none-open h = ask-no _ _ _ (le-ltb (p .case) (i .cases) h)
 
     module _ (o : p .case < i .cases) (g : Frame) (e : g ≡ top p) (m : Bool) (d : m ≡ sameFrame f g) where
-      pub another-line : m ≡ false → turned (Stopped TOP at) p program ≡ onStep bytes i offsets (state at p program) next f step
+      pub another-line : m ≡ false → turned bytes i p (Stopped TOP at) program ≡ onStep bytes i offsets (state at p program) next f step
       unfolding turned onStep
       another-line h = ask-no _ _ _ (cc) ∙ ask-yes _ _ _ (lt-ltb (p .case) (i .cases) o)
 
       -- `held` is on the line, `l` says whether the step fits it
       module _ (y : m ≡ true) (offset : ℕ) (eo : offset ≡ lineOffset (i .bounds) (f .procedure) (f .line)) (held : Triple)
           (eh : held ≡ tripleAt program offset) (l : Bool) (el : l ≡ lineFits held step) where
-        pub line-differs : l ≡ false → turned (Stopped LINE at) p program ≡ onStep bytes i offsets (state at p program) next f step
+        pub line-differs : l ≡ false → turned bytes i p (Stopped LINE at) program ≡ onStep bytes i offsets (state at p program) next f step
         unfolding turned onStep
         line-differs h = ask-no _ _ _ (cc) ∙ ask-yes _ _ _ (cc) ∙ ask-yes _ _ _ (lt-ltb (p .case) (i .cases) o)
 
@@ -137,7 +153,7 @@ module _ (bytes : List ℕ) (i : Index) (offsets : List ℕ) (at : ℕ) (p : Pos
   -- a step's record
   module _ (plan : List ℕ) (kind body : ℕ) where
     pub steps-used : i .bounds .steps ≤ p .steps
-        → turned (Stopped STEPS at) p program ≡ stepTurn bytes i offsets (state at p program) plan kind body next
+        → turned bytes i p (Stopped STEPS at) program ≡ stepTurn bytes i offsets (state at p program) plan kind body next
     unfolding turned stepTurn
     steps-used h = ask-no _ _ _ (le-ltb (p .steps) (i .bounds .steps) h)
 
@@ -148,7 +164,7 @@ module _ (bytes : List ℕ) (i : Index) (offsets : List ℕ) (at : ℕ) (p : Pos
       unfolding stepTurn frameAt
       on-decoded = rw (ed, ew, ← procedure, ← line) (ask-yes _ _ _ (lt-ltb (p .steps) (i .bounds .steps) few))
 
-      pub none-decoded : d ≡ Nothing → turned (Stopped ALLOWED at) p program ≡ stepTurn bytes i offsets (state at p program) plan kind body next
+      pub none-decoded : d ≡ Nothing → turned bytes i p (Stopped ALLOWED at) program ≡ stepTurn bytes i offsets (state at p program) plan kind body next
       unfolding turned onDecoded
       none-decoded h = rw h at on-decoded
 
@@ -161,7 +177,7 @@ module _ (bytes : List ℕ) (i : Index) (offsets : List ℕ) (at : ℕ) (p : Pos
 module _ (bytes : List ℕ) (i : Index) (offsets plan : List ℕ) (at : ℕ) (p : Position) (program : List ℕ) where
   -- the record that `f` found at the offset
   module _ (f : Found) (e : f ≡ recordAt plan at) where
-    pub record-missing : f ≡ Missing → turned (Stopped PLAN-RECORD at) p program ≡ turnOf bytes i offsets plan (state at p program)
+    pub record-missing : f ≡ Missing → turned bytes i p (Stopped PLAN-RECORD at) program ≡ turnOf bytes i offsets plan (state at p program)
     unfolding turned turnOf onRecord
     record-missing h = rw (← e, h)
 
@@ -171,12 +187,12 @@ module _ (bytes : List ℕ) (i : Index) (offsets plan : List ℕ) (at : ℕ) (p 
       on-record = rw (← e, r) refl
 
       module _ (k : Bool) (ek : k ≡ isKind kind) where
-        pub another-kind : k ≡ false → turned (Stopped PLAN-KIND at) p program ≡ turnOf bytes i offsets plan (state at p program)
+        pub another-kind : k ≡ false → turned bytes i p (Stopped PLAN-KIND at) program ≡ turnOf bytes i offsets plan (state at p program)
         unfolding turned onRecord
         another-kind h = ask-no _ _ _ (sym ek ∙ h) ∙ on-record
 
         module _ (y : k ≡ true) (l : Bool) (el : l ≡ lengthFits kind size) where
-          pub length-differs : l ≡ false → turned (Stopped PLAN-LENGTH at) p program ≡ turnOf bytes i offsets plan (state at p program)
+          pub length-differs : l ≡ false → turned bytes i p (Stopped PLAN-LENGTH at) program ≡ turnOf bytes i offsets plan (state at p program)
           unfolding turned onRecord
           length-differs h = ask-no _ _ _ (sym el ∙ h) ∙ ask-yes _ _ _ (sym ek ∙ y) ∙ on-record
 

@@ -26,8 +26,9 @@ use Rattle.task.specs.declared.instruction.Decoded.the-variants.{Is, Nothing}
 use Rattle.task.specs.declared.instruction.Instruction.{Instruction}
 use Rattle.task.proofs.Laws.Instruction.{decoded-for}
 use Rattle.task.proofs.Laws.Passed.{Passed, passed}
+use Rattle.step.specs.Moved.{movedBy}
 use Rattle.step.specs.Perform.{perform}
-use Rattle.step.specs.Position.{sameFrame, top}
+use Rattle.step.specs.Position.{sameFrame, top, counted}
 use Rattle.step.specs.Possible.{possible}
 use Rattle.step.specs.declared.position.Frame.{Frame}
 use Rattle.step.specs.declared.position.Position.{Position}
@@ -257,27 +258,29 @@ module _ (bytes : List ℕ) (i : Index) (offsets plan : List ℕ) where
   unfolding from
   from-turn s = unroll (turnOf bytes i offsets plan) (left plan) (refused PLAN-RECORD 0) (falls bytes i offsets plan) s
 
-  -- one record more: its outcome, with the position and the program as they are then
-  module _ (s : State) (outcome : Outcome) (p : Position) (program : List ℕ) (e : turned outcome p program ≡ turnOf bytes i offsets plan s) where
-    pub next-goes : (at : ℕ) → outcome ≡ Next at → turnOf bytes i offsets plan s ≡ go (state at p program)
+  -- one record more: its outcome, with the program as it is then
+  module _ (s : State) (outcome : Outcome) (program : List ℕ) (e : turned bytes i (s .position) outcome program ≡ turnOf bytes i offsets plan s) where
+    pub next-goes : (at : ℕ) (w : Instruction) (facts : ℕ) → outcome ≡ Next at w facts
+        → turnOf bytes i offsets plan s ≡ go (state at (counted (movedBy bytes i (s .position) facts w)) program)
     unfolding turned
-    next-goes at h = sym (rw h at e)
+    next-goes at w facts h = sym (rw h at e)
 
-    pub next-falls : (at : ℕ) → outcome ≡ Next at → length plan - at < left plan s
-    next-falls at h = falls bytes i offsets plan s _ (next-goes at h)
+    pub next-falls : (at : ℕ) (w : Instruction) (facts : ℕ) → outcome ≡ Next at w facts → length plan - at < left plan s
+    next-falls at w facts h = falls bytes i offsets plan s _ (next-goes at w facts h)
 
     module _ (whole : Result) (r : from bytes i offsets plan s ≡ whole) where
-      rest : after (turned outcome p program) (from bytes i offsets plan) ≡ whole
+      rest : after (turned bytes i (s .position) outcome program) (from bytes i offsets plan) ≡ whole
       rest = ap (λ (t : Turn State Result). after t (from bytes i offsets plan)) e ∙ sym (from-turn s) ∙ r
 
-      pub from-next : (at : ℕ) → outcome ≡ Next at → from bytes i offsets plan (state at p program) ≡ whole
+      pub from-next : (at : ℕ) (w : Instruction) (facts : ℕ) → outcome ≡ Next at w facts
+          → from bytes i offsets plan (state at (counted (movedBy bytes i (s .position) facts w)) program) ≡ whole
       unfolding turned after
-      from-next at h = rw h at rest
+      from-next at w facts h = rw h at rest
 
       pub from-stopped : (question place : ℕ) → outcome ≡ Stopped question place → refused question place ≡ whole
       unfolding turned after
       from-stopped question place h = rw h at rest
 
-      pub from-closed : outcome ≡ Closed → accepted (p .steps) program ≡ whole
+      pub from-closed : outcome ≡ Closed → accepted (s .position .steps) program ≡ whole
       unfolding turned after
       from-closed h = rw h at rest

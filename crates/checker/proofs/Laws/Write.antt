@@ -3,13 +3,13 @@
 -- a turn that goes on has one step more, and the loop's law applies: what the run comes to from here on is one turn, and then what it comes
 -- to from there on. It keeps the position possible, and a run has at most S steps.
 -- Assumes nothing.
-use Prim.Native.Nat.{ℕ, _+_, _*_, _-_, _≤_, _<_}
+use Prim.Native.Nat.{ℕ, _+_, _≤_, _<_}
 use mathlib.Core.Path.{_≡_, refl, sym, ap, _∙_, subst}
 use mathlib.Core.Bool.{true}
 use mathlib.Core.List.{List, _++_}
 use native.Mathlib.Omega.{arith}
 use lib.Dec.{ltb}
-use lib.ListN.{length, take}
+use lib.ListN.{length}
 use borrow.Author.Tests.{ltb-true, ltb-false, lt-ltb, le-ltb}
 use Rattle.records.specs.Loop.{Turn, stop, go, ask, after, loop}
 use Rattle.records.proofs.Laws.Loop.{Keeps, unroll, loop-keeps}
@@ -20,26 +20,21 @@ use Rattle.task.specs.declared.index.Index.{Index}
 use Rattle.task.specs.declared.index.Task.{Task}
 use Rattle.task.specs.declared.instruction.Decoded.the-variants.{Is}
 use Rattle.task.specs.declared.instruction.Instruction.{Instruction}
-use Rattle.task.specs.declared.verdict.Verdict.the-variants.{Accepted, Refused}
 use Rattle.task.proofs.Laws.Passed.{Passed}
 use Rattle.task.proofs.Laws.Triple.{decoded-on}
 use Rattle.step.specs.Perform.{perform, performDecoded, runLine, runStep}
 use Rattle.step.specs.Position.{starting, top}
 use Rattle.step.specs.Questions.{STEPS}
-use Rattle.step.specs.Ready.{Open}
-use Rattle.step.specs.declared.perform.Stepped.{Stepped}
 use Rattle.step.specs.declared.position.Position.{Position}
 use Rattle.step.proofs.Laws.Kept.{run-possible}
 use Rattle.step.proofs.Laws.Perform.{steps-grow, step-ran}
 use Rattle.step.proofs.Laws.Possible.{parts, case-open}
 use Rattle.checker.specs.Answer.{Result, refused, accepted}
 use Rattle.checker.specs.Check.{written}
-use Rattle.checker.specs.Outcome.{ReadAs, writing, wrote, ranAs}
-use Rattle.checker.specs.Plan.{PlanStep, recordOf, closing, planSize}
+use Rattle.checker.specs.Plan.{PlanStep, recordOf, closing}
 use Rattle.checker.specs.Write.{Writing, stepOn, onStep, writeTurn, stepsLeft, start, run}
 use Rattle.checker.specs.declared.plan.Step.{Step}
-use Rattle.checker.proofs.Laws.Check.{position-open}
-use Rattle.checker.proofs.Laws.Turns.{Standing, read-passed}
+use Rattle.checker.proofs.Laws.Turns.{Standing}
 
 -- a step's record has 9 bytes, the closing one 4
 pub record-length : (s : PlanStep) → length (recordOf s) ≡ 9
@@ -155,12 +150,6 @@ module _ (bytes : List ℕ) (i : Index) (offsets : List ℕ) (s : Writing) (prog
   pub written-falls : (u : Writing) → writeTurn bytes i offsets program s ≡ go u → stepsLeft i u < stepsLeft i s
   written-falls u e = let w = goes-written u e in omega (arith, w .few, written-steps u w)
 
--- with a case open, a possible position has a frame
-pub read-open : (bytes : List ℕ) (t : Task) → ReadAs bytes t → (p : Position) → Standing (t .index) p → p .case < t .index .cases → Open (t .index) p
-read-open bytes t r p h o =
-    let passed = read-passed bytes t r in
-    position-open (t .index) p (record { ranges = passed .bounded; actions = passed .actions; cases = passed .cases .1 }) (h .0) o
-
 -- a turn that goes on leads to a possible position again
 pub written-stands : (bytes : List ℕ) (t : Task) → Passed bytes t → (s u : Writing) (program : List ℕ) → Standing (t .index) (s .position)
     → writeTurn bytes (t .index) (t .offsets) program s ≡ go u → Standing (t .index) (u .position)
@@ -186,42 +175,6 @@ module _ (bytes : List ℕ) (i : Index) (offsets program : List ℕ) where
   run-turn s =
       unroll (writeTurn bytes i offsets program) (stepsLeft i) (refused STEPS 0)
       (λ u v. written-falls bytes i offsets u program v) s
-
-  -- one step more: the answer to it, with the lines and the plan's bytes as they are then
-  module _ (s : Writing) (case : s .position .case < i .cases) (r : Stepped) (lines plan : List ℕ)
-      (e : wrote r lines plan ≡ onStep i program s (runStep bytes i offsets program (s .position))) where
-    is-turn : wrote r lines plan ≡ writeTurn bytes i offsets program s
-    unfolding writeTurn
-    is-turn = e ∙ cond-yes _ true _ _ (sym (lt-ltb (s .position .case) (i .cases) case)) refl
-
-    pub step-next : (value : ℕ) → r .verdict ≡ Accepted value → writeTurn bytes i offsets program s ≡ go (writing (r .position) lines plan)
-    unfolding wrote
-    step-next value h = sym (rw h at is-turn)
-
-    pub step-falls : (value : ℕ) → r .verdict ≡ Accepted value → i .bounds .steps - r .position .steps < stepsLeft i s
-    step-falls value h = written-falls bytes i offsets s program _ (step-next value h)
-
-    module _ (whole : Result) (h : runFrom bytes i offsets program s ≡ whole) where
-      rest : after (wrote r lines plan) (runFrom bytes i offsets program) ≡ whole
-      rest = ap (λ (t : Turn Writing Result). after t (runFrom bytes i offsets program)) is-turn ∙ sym (run-turn s) ∙ h
-
-      pub run-next : (value : ℕ) → r .verdict ≡ Accepted value → runFrom bytes i offsets program (writing (r .position) lines plan) ≡ whole
-      unfolding wrote after
-      run-next value k = rw k at rest
-
-      pub run-stopped : (question place : ℕ) → r .verdict ≡ Refused question place → ranAs (r .verdict) plan ≡ whole
-      unfolding wrote after ranAs
-      run-stopped question place k = rw k (rw k at rest)
-
-  -- behind the last case: the closing record `added` is behind the others then
-  pub run-closed : (p : Position) (lines plan : List ℕ) → i .cases ≤ p .case → (added behind : List ℕ) → added ≡ closing
-      → take (9 * p .steps + length added) behind ≡ take (9 * p .steps) plan ++ added
-      → (whole : Result) → runFrom bytes i offsets program (writing p lines plan) ≡ whole → ranAs (Accepted (p .steps)) behind ≡ whole
-  unfolding ranAs planSize after
-  run-closed p lines plan c added behind e eb whole h =
-      let ends = finished-accepts bytes i offsets (writing p lines plan) program (p .steps) _ (record { case = c; count = refl; closed = refl }) in
-      let eb' : take (9 * p .steps + 4) behind ≡ take (9 * p .steps) plan ++ closing = rw (e, closing-length) at eb in
-      rw eb' (rw ends at (sym (run-turn (writing p lines plan))) ∙ h)
 
   -- a run has at most S steps: those that it is accepted with, and those after which it stops
   abbrev pub Within : Result → Type 0

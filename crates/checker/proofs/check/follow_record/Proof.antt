@@ -2,6 +2,7 @@
 -- Assumes nothing.
 use mathlib.Core.Path.{sym, _∙_}
 use borrow.Author.Tests.{not-true, not-false}
+use Rattle.checker.specs.Outcome.{Passes}
 use Rattle.checker.proofs.Laws.Check.{record-missing, another-kind, length-differs, closing-record, step-record, step-there}
 use borrow.Author.Needs.{needs}
 use Rattle.checker.proofs.check.follow_record.Statement.{statement}
@@ -16,49 +17,43 @@ enum-known-found c = search needs
 enum-told : tie.Need-enum-told
 enum-told c = search needs
 
-stopped-requires : tie.Need-stopped-requires
-stopped-requires c κs = search needs
-
 returns : tie.Need-returns
+unfolding Passes
 returns c =
-    let at-enum-told = c .before in
-    let at-plan-record = at-enum-told .before .before in
-    rw (c .stopped .ensures) (record-missing _ _ _ _ _ _ _ _ (at-plan-record .plan-record .ensures) (at-enum-told .enum-told .given .1))
+    let at-plan-record = c .before .before in
+    (λ callers s st. record-missing _ _ _ _ _ s _ _ (at-plan-record .plan-record .ensures) (c .enum-told .given .1), tt)
 
 is-kind-requires : tie.Need-is-kind-requires
 is-kind-requires c κs = search needs
 
-stopped-requires-2 : tie.Need-stopped-requires-2
-stopped-requires-2 c κs = search needs
-
 returns-2 : tie.Need-returns-2
+unfolding Passes
 returns-2 c =
-    let at-if1 = c .before in
-    let at-is-kind = at-if1 .before in
+    let at-is-kind = c .before in
     let at-found = at-is-kind .before .before in
-    let at-plan-record = at-found .before .before in
-    rw (c .stopped2 .ensures)
-    (another-kind _ _ _ _ _ _ _ _ (at-plan-record .plan-record .ensures) _ _ _ _ (at-found .found .given .1) _ (at-is-kind .is-kind .ensures)
-    (not-true _ (at-if1 .if1 .taken)))
+    let at-plan-record = at-found .before .before in (
+      λ callers s st.
+          another-kind _ _ _ _ _ s _ _ (at-plan-record .plan-record .ensures) _ _ _ _ (at-found .found .given .1) _ (at-is-kind .is-kind .ensures)
+          (not-true _ (c .if1 .taken)),
+      tt,
+    )
 
 length-fits-requires : tie.Need-length-fits-requires
 length-fits-requires c κs = search needs
 
-stopped-requires-3 : tie.Need-stopped-requires-3
-stopped-requires-3 c κs = search needs
-
 returns-3 : tie.Need-returns-3
+unfolding Passes
 returns-3 c =
-    let at-if2 = c .before in
-    let at-length-fits = at-if2 .before in
+    let at-length-fits = c .before in
     let at-if1 = at-length-fits .before in
     let at-is-kind = at-if1 .before in
     let at-found = at-is-kind .before .before in
-    let at-plan-record = at-found .before .before in
-    rw (c .stopped3 .ensures)
-    (length-differs _ _ _ _ _ _ _ _ (at-plan-record .plan-record .ensures) _ _ _ _ (at-found .found .given .1) _ (at-is-kind .is-kind .ensures)
-    (not-false _ (at-if1 .if1 .left)) _
-    (at-length-fits .length-fits .ensures) (not-true _ (at-if2 .if2 .taken)))
+    let at-plan-record = at-found .before .before in (
+      λ callers s st.
+          length-differs _ _ _ _ _ s _ _ (at-plan-record .plan-record .ensures) _ _ _ _ (at-found .found .given .1) _ (at-is-kind .is-kind .ensures)
+          (not-false _ (at-if1 .if1 .left)) _ (at-length-fits .length-fits .ensures) (not-true _ (c .if2 .taken)),
+      tt,
+    )
 
 close-requires : tie.Need-close-requires
 close-requires c κs = search needs
@@ -71,10 +66,13 @@ returns-4 c =
     let at-if1 = at-length-fits .before in
     let at-is-kind = at-if1 .before in
     let at-found = at-is-kind .before .before in
-    let at-plan-record = at-found .before .before in
-    closing-record _ _ _ _ _ _ _ _ (at-plan-record .plan-record .ensures) _ _ _ _ (at-found .found .given .1) _ (at-is-kind .is-kind .ensures)
-    (not-false _ (at-if1 .if1 .left)) _
-    (at-length-fits .length-fits .ensures) (not-false _ (at-if2 .if2 .left)) _ (at-if3 .if3 .taken) (c .close .ensures _)
+    let at-plan-record = at-found .before .before in (
+      λ callers s st.
+          closing-record _ _ _ _ _ s _ _ (at-plan-record .plan-record .ensures) _ _ _ _ (at-found .found .given .1) _ (at-is-kind .is-kind .ensures)
+          (not-false _ (at-if1 .if1 .left)) _ (at-length-fits .length-fits .ensures) (not-false _ (at-if2 .if2 .left)) _ (at-if3 .if3 .taken)
+          (c .close .ensures .0 _ _ s (st .case)),
+      c .close .ensures .1 _,
+    )
 
 follow-step-requires : tie.Need-follow-step-requires
 follow-step-requires c κs =
@@ -85,7 +83,7 @@ follow-step-requires c κs =
     let at-plan-record = at-found .before .before in
     let at-start = at-plan-record .before .before .before .before in
     let fits = sym (at-length-fits .length-fits .ensures) ∙ not-false _ (at-if2 .if2 .left) in
-    (at-start .pre .0, at-start .pre .1, step-there _ _ _ (at-plan-record .plan-record .ensures) _ _ _ _ (at-found .found .given .1) fits (at-if3 .if3 .left))
+    (at-start .pre, step-there _ _ _ (at-plan-record .plan-record .ensures) _ _ _ _ (at-found .found .given .1) fits (at-if3 .if3 .left))
 
 same-length : tie.Need-same-length
 same-length c = search needs
@@ -99,10 +97,13 @@ returns-5 c =
     let at-if1 = at-length-fits .before in
     let at-is-kind = at-if1 .before in
     let at-found = at-is-kind .before .before in
-    let at-plan-record = at-found .before .before in
-    step-record _ _ _ _ _ _ _ _ (at-plan-record .plan-record .ensures) _ _ _ _ (at-found .found .given .1) _ (at-is-kind .is-kind .ensures)
-    (not-false _ (at-if1 .if1 .left)) _
-    (at-length-fits .length-fits .ensures) (not-false _ (at-if2 .if2 .left)) _ (at-if3 .if3 .left) (at-follow-step .follow-step .ensures)
+    let at-plan-record = at-found .before .before in (
+      λ callers s st.
+          step-record _ _ _ _ _ s _ _ (at-plan-record .plan-record .ensures) _ _ _ _ (at-found .found .given .1) _ (at-is-kind .is-kind .ensures)
+          (not-false _ (at-if1 .if1 .left)) _ (at-length-fits .length-fits .ensures) (not-false _ (at-if2 .if2 .left)) _ (at-if3 .if3 .left)
+          (at-follow-step .follow-step .ensures .0 callers s st),
+      at-follow-step .follow-step .ensures .1,
+    )
 
 pub follow-record-spec : {M : Type 1} → statement M
 follow-record-spec =
@@ -111,13 +112,10 @@ follow-record-spec =
     plan-record-requires
     enum-known-found
     enum-told
-    stopped-requires
     returns
     is-kind-requires
-    stopped-requires-2
     returns-2
     length-fits-requires
-    stopped-requires-3
     returns-3
     close-requires
     returns-4

@@ -2,6 +2,7 @@
 -- Assumes nothing.
 use Rattle.task.specs.Program.{sameTriple}
 use Rattle.checker.specs.Check.{lineFits}
+use Rattle.checker.proofs.Laws.Check.{line-repeats}
 use borrow.Author.Needs.{needs}
 use Rattle.checker.proofs.check.line_fits.Statement.{statement}
 use Rattle.checker.proofs.check.line_fits.Tie as tie
@@ -9,24 +10,18 @@ use Rattle.checker.proofs.check.line_fits.Tie as tie
 enum-told : tie.Need-enum-told
 enum-told c = search needs
 
-enum-known-step : tie.Need-enum-known-step
-enum-known-step c = search needs
-
-encode-requires : tie.Need-encode-requires
-encode-requires c κs = search needs
+enum-told-2 : tie.Need-enum-told-2
+enum-told-2 c = search needs
 
 returns : tie.Need-returns
 unfolding lineFits
-returns c =
-    let at-enum-told = c .before in
-    rw (at-enum-told .enum-told .given .1)
+returns c = rw (c .before .enum-told .given .1)
 
 returns-2 : tie.Need-returns-2
-unfolding lineFits sameTriple
+unfolding sameTriple
 returns-2 c =
-    let at-encode = c .before .before .before .before .before .before in
-    let at-step = at-encode .before .before in
-    rw (at-step .step .given .1, ← at-encode .encode .ensures)
+    let at-enum-told2 = c .before .before .before .before .before .before in
+    line-repeats _ _ _ (at-enum-told2 .before .before .pre) (at-enum-told2 .enum-told2 .given .1) _
 
 pub line-fits-spec : {M : Type 1} → statement M
-line-fits-spec = tie.close (tie.spec enum-told enum-known-step encode-requires returns returns-2)
+line-fits-spec = tie.close (tie.spec enum-told enum-told-2 returns returns-2)

@@ -1,10 +1,10 @@
 -- `checker::write::write_plan` meets its contract: the task's verdict decides, then the program's, then what the run comes to, then question 29.
--- A run that accepts has at most S steps, so its plan fits into the bytes that are there for it.
+-- A run that is accepted has at most 4096 steps, and its trace leads to the plan.
 -- Assumes nothing.
-use mathlib.Core.Path.{sym, ap, _∙_}
+use mathlib.Core.Path.{refl}
 use native.Mathlib.Omega.{arith}
-use Rattle.task.specs.declared.reading.Reading.{Reading}
-use Rattle.checker.proofs.Laws.Answer.{task-turned-down, program-refused, run-refused, plan-most, buffer-small, plan-written}
+use Rattle.checker.specs.Plan.{planSize}
+use Rattle.checker.proofs.Laws.Answer.{task-turned-down, program-refused, runs-of, presets-room, accepted-spelled, run-refused, buffer-small, plan-written}
 use borrow.Author.Needs.{needs}
 use Rattle.checker.proofs.write.write_plan.Statement.{statement}
 use Rattle.checker.proofs.write.write_plan.Tie as tie
@@ -37,26 +37,18 @@ returns-2 c =
     let at-check-program = c .before .before in
     let at-enum-told = at-check-program .before .before .before .before .before .before in
     let at-read-task = at-enum-told .before .before in
-    program-refused _ _ _ _ (at-read-task .read-task .ensures) _ (at-enum-told .enum-told .given .1) _ (at-check-program .check-program .ensures) _ _ (c .enum-told4 .given .1)
-
-slice-aggregate-run : tie.Need-slice-aggregate-run
-slice-aggregate-run c = search needs
-
-slice-aggregate-run-2 : tie.Need-slice-aggregate-run-2
-slice-aggregate-run-2 c = search needs
+    program-refused _ _ _ _ (at-read-task .read-task .ensures) _ (at-enum-told .enum-told .given .1) _ (at-check-program .check-program .ensures) _ _
+    (c .enum-told4 .given .1)
 
 run-requires : tie.Need-run-requires
 run-requires c κs =
-    let at-check-program = c .before .before .before .before .before .before .before in
+    let at-enum-told3 = c .before .before .before in
+    let at-check-program = at-enum-told3 .before .before in
     let at-enum-told = at-check-program .before .before .before .before .before .before in
-    let at-read-task = at-enum-told .before .before in
-    let read = at-read-task .read-task .ensures in (
-      record {
-        value = _;
-        verdict = sym (ap (λ (r : Reading). r .verdict) read) ∙ at-enum-told .enum-told .given .1;
-        task = sym (ap (λ (r : Reading). r .task) read);
-      },
-      search needs,
+    let at-read-task = at-enum-told .before .before in (
+      runs-of _ _ _ (at-read-task .read-task .ensures) _ (at-enum-told .enum-told .given .1) _ (at-check-program .check-program .ensures) _
+          (at-enum-told3 .enum-told3 .given .1),
+      refl,
     )
 
 enum-known-ran : tie.Need-enum-known-ran
@@ -67,74 +59,72 @@ enum-told-5 c = search needs
 
 returns-3 : tie.Need-returns-3
 returns-3 c =
-    let at-run = c .before .before .before .before in
-    let at-enum-told3 = at-run .before .before .before .before .before .before in
+    let at-run = c .before .before in
+    let at-enum-told3 = at-run .before .before .before .before in
     let at-check-program = at-enum-told3 .before .before in
     let at-enum-told = at-check-program .before .before .before .before .before .before in
     let at-read-task = at-enum-told .before .before in
     run-refused _ _ _ _ (at-read-task .read-task .ensures) _ (at-enum-told .enum-told .given .1) _ (at-check-program .check-program .ensures) _
-    (at-enum-told3 .enum-told3 .given .1) _ _ (at-run .run .ensures) _ _ (c .enum-told5 .given .1)
+    (at-enum-told3 .enum-told3 .given .1) _ _ (at-run .run .ensures .0 _) _ _ (c .enum-told5 .given .1)
 
 mul-size : tie.Need-mul-size
 mul-size c =
     let at-ran = c .before in
-    let at-run = at-ran .before .before .before .before in
-    let at-enum-told = at-run .before .before .before .before .before .before .before .before .before .before .before .before .before .before in
-    let at-read-task = at-enum-told .before .before in
-    let most =
-    plan-most _ _ _ (at-read-task .read-task .ensures) _ (at-enum-told .enum-told .given .1) _ _ (at-run .run .ensures) _ (at-ran .ran .given .1) in
-    omega (arith, most)
+    omega (arith, accepted-spelled _ _ _ _ (at-ran .before .before .run .ensures .1) _ (at-ran .ran .given .1) .1)
 
 add-size : tie.Need-add-size
 add-size c =
     let at-ran = c .before in
-    let at-run = at-ran .before .before .before .before in
-    let at-enum-told = at-run .before .before .before .before .before .before .before .before .before .before .before .before .before .before in
-    let at-read-task = at-enum-told .before .before in
-    let most =
-    plan-most _ _ _ (at-read-task .read-task .ensures) _ (at-enum-told .enum-told .given .1) _ _ (at-run .run .ensures) _ (at-ran .ran .given .1) in
-    omega (arith, most)
+    omega (arith, accepted-spelled _ _ _ _ (at-ran .before .before .run .ensures .1) _ (at-ran .ran .given .1) .1)
 
 returns-4 : tie.Need-returns-4
 returns-4 c =
     let at-ran = c .before .before in
-    let at-run = at-ran .before .before .before .before in
-    let at-enum-told3 = at-run .before .before .before .before .before .before in
+    let at-run = at-ran .before .before in
+    let at-enum-told3 = at-run .before .before .before .before in
     let at-check-program = at-enum-told3 .before .before in
     let at-enum-told = at-check-program .before .before .before .before .before .before in
     let at-read-task = at-enum-told .before .before in
     buffer-small _ _ _ _ (at-read-task .read-task .ensures) _ (at-enum-told .enum-told .given .1) _ (at-check-program .check-program .ensures) _
-    (at-enum-told3 .enum-told3 .given .1) _ _ (at-run .run .ensures) _ (at-ran .ran .given .1) (omega arith)
+    (at-enum-told3 .enum-told3 .given .1) _ _ (at-run .run .ensures .0 _) _ (at-ran .ran .given .1) (omega arith)
 
-slice-aggregate-fill : tie.Need-slice-aggregate-fill
-slice-aggregate-fill c = search needs
+slice-aggregate-write-records : tie.Need-slice-aggregate-write-records
+slice-aggregate-write-records c = search needs
 
-fill-requires : tie.Need-fill-requires
-fill-requires c κs =
-    let at-ran = c .before .before .before .before in
-    let at-run = at-ran .before .before .before .before in
-    let at-enum-told = at-run .before .before .before .before .before .before .before .before .before .before .before .before .before .before in
+write-records-requires : tie.Need-write-records-requires
+unfolding planSize
+write-records-requires c κs =
+    let at-if1 = c .before .before .before .before in
+    let at-ran = at-if1 .before .before in
+    let at-run = at-ran .before .before in
+    let at-enum-told3 = at-run .before .before .before .before in
+    let at-check-program = at-enum-told3 .before .before in
+    let at-enum-told = at-check-program .before .before .before .before .before .before in
     let at-read-task = at-enum-told .before .before in
-    let most =
-    plan-most _ _ _ (at-read-task .read-task .ensures) _ (at-enum-told .enum-told .given .1) _ _ (at-run .run .ensures) _ (at-ran .ran .given .1) in
-    (omega arith, omega (arith, most))
+    let spelled = accepted-spelled _ _ _ _ (at-run .run .ensures .1) _ (at-ran .ran .given .1) in (
+      spelled .1,
+      omega (arith, at-if1 .if1 .left),
+      presets-room _ _ _ (at-read-task .read-task .ensures) _ (at-enum-told .enum-told .given .1) _ (at-check-program .check-program .ensures) _
+          (at-enum-told3 .enum-told3 .given .1),
+      spelled .0,
+    )
 
 same-length : tie.Need-same-length
 same-length c = search needs
 
 returns-5 : tie.Need-returns-5
 returns-5 c =
-    let at-fill = c .before .before in
-    let at-if1 = at-fill .before .before .before in
+    let at-write-records = c .before .before .before in
+    let at-if1 = at-write-records .before .before .before .before .before in
     let at-ran = at-if1 .before .before in
-    let at-run = at-ran .before .before .before .before in
-    let at-enum-told3 = at-run .before .before .before .before .before .before in
+    let at-run = at-ran .before .before in
+    let at-enum-told3 = at-run .before .before .before .before in
     let at-check-program = at-enum-told3 .before .before in
     let at-enum-told = at-check-program .before .before .before .before .before .before in
     let at-read-task = at-enum-told .before .before in
     plan-written _ _ _ _ (at-read-task .read-task .ensures) _ (at-enum-told .enum-told .given .1) _ (at-check-program .check-program .ensures) _
-    (at-enum-told3 .enum-told3 .given .1) _ _ (at-run .run .ensures) _ (at-ran .ran .given .1) (omega (arith, at-if1 .if1 .left)) _
-    (at-fill .fill .ensures)
+    (at-enum-told3 .enum-told3 .given .1) _ _ (at-run .run .ensures .0 _) _ (at-ran .ran .given .1) (omega (arith, at-if1 .if1 .left)) _
+    (at-write-records .write-records .ensures)
 
 pub write-plan-spec : {M : Type 1} → statement M
 write-plan-spec =
@@ -148,8 +138,6 @@ write-plan-spec =
     enum-told-3
     enum-told-4
     returns-2
-    slice-aggregate-run
-    slice-aggregate-run-2
     run-requires
     enum-known-ran
     enum-told-5
@@ -157,7 +145,7 @@ write-plan-spec =
     mul-size
     add-size
     returns-4
-    slice-aggregate-fill
-    fill-requires
+    slice-aggregate-write-records
+    write-records-requires
     same-length
     returns-5)

@@ -1,9 +1,9 @@
--- `checker::write::step_on` meets its contract: the test of the line's first byte is the definition's.
+-- `checker::trace::step_on` meets its contract: the test of the line's first byte is the definition's.
 -- Assumes nothing.
 use borrow.Author.Tests.{eq-eqb, ne-eqb}
 use Rattle.checker.specs.Write.{stepOn}
-use Rattle.checker.proofs.write.step_on.Statement.{statement}
-use Rattle.checker.proofs.write.step_on.Tie as tie
+use Rattle.checker.proofs.trace.step_on.Statement.{statement}
+use Rattle.checker.proofs.trace.step_on.Tie as tie
 
 returns : tie.Need-returns
 unfolding stepOn

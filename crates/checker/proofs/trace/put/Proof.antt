@@ -1,9 +1,9 @@
--- `checker::write::put` meets its contract: what is copied to the rest of the slice stands behind its first bytes.
+-- `checker::trace::put` meets its contract: what is copied to the rest of the slice changes no other byte.
 -- Assumes nothing.
-use Rattle.checker.proofs.Laws.Steps.{put-behind}
+use Rattle.checker.proofs.Laws.Records.{put-in}
 use borrow.Author.Needs.{needs}
-use Rattle.checker.proofs.write.put.Statement.{statement}
-use Rattle.checker.proofs.write.put.Tie as tie
+use Rattle.checker.proofs.trace.put.Statement.{statement}
+use Rattle.checker.proofs.trace.put.Tie as tie
 
 sub-copy : tie.Need-sub-copy
 sub-copy c = search needs
@@ -23,8 +23,8 @@ same-length c = search needs
 returns : tie.Need-returns
 returns c =
     let at-copy = c .before .before in
-    let at-start = at-copy .before .before .before .before in
-    put-behind _ _ _ _ _ _ (at-start .pre) (at-copy .copy .ensures .1)
+    let a = at-copy .before .before .before .before .args in
+    put-in (a .at) (a .plan .now) (a .added .now) _ (at-copy .copy .ensures .1)
 
 pub put-spec : {M : Type 1} → statement M
 put-spec =
