@@ -158,9 +158,9 @@ module _ (bytes : List ℕ) (s : State) (small : Small s) where
       record {
         refusal = λ question. here;
         header = λ f. header-good _ _ refl (small .first (f .low));
-        action = λ size f e l m. action-good _ _ size (omega arith);
+        action = λ size f e l m r. action-good _ _ size (omega arith);
         preset = λ f. preset-good _ _ refl;
-        case = λ f. case-good _ _ refl;
+        case = λ f r. case-good _ _ refl;
         close = λ f. close-good _ refl;
       }
 

@@ -168,9 +168,9 @@ module _ (bytes : List ℕ) (s : State) (reached : Reached s) where
       record {
         refusal = λ question. refused-sound question _;
         header = λ f. header-kept _ _ f;
-        action = λ size f e l m. action-kept _ size _ f;
+        action = λ size f e l m r. action-kept _ size _ f;
         preset = λ f. preset-kept _ _;
-        case = λ f. case-kept _ _;
+        case = λ f r. case-kept _ _;
         close = λ f. close-kept _;
       }
 
