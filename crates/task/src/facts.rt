@@ -23,14 +23,18 @@ pub(crate) fn literals_at(bytes: &[u8], at: usize) -> Literals
     }
 }
 
-// The greatest set of facts below `facts`: a set has such facts alone where it is no greater.
+// The greatest set of facts below `facts`: a set has such facts alone where it is no greater. Of `(1 << facts) - 1` the compiler would make a
+// shift of each set that is compared with it.
 fn most(facts: u8) -> u64
     ensures { λ r. ⌜ ((set : ℕ) → set < 2 ^ 64 → leb set r ≡ within facts set) ⌝ }
 {
+    if facts == 0 {
+        return 0;
+    }
     if 64 <= facts {
         return 0xffff_ffff_ffff_ffff;
     }
-    (1 << facts) - 1
+    0xffff_ffff_ffff_ffff >> (64 - facts)
 }
 
 // Whether a set uses bits below `facts` alone.

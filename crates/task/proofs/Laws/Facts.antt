@@ -1,6 +1,6 @@
 -- Sets below a number of facts by the greatest of them, two of them by their union, and question 6 at one pair and at each pair of a row that passes it.
 -- Assumes nothing.
-use Prim.Native.Nat.{ℕ, _+_, _-_, _*_, _%_, _^_, _≤_, _<_}
+use Prim.Native.Nat.{ℕ, _+_, _-_, _*_, _/_, _^_, _≤_, _<_}
 use mathlib.Core.Path.{_≡_, sym, ap, _∙_}
 use mathlib.Core.Bool.{Bool, true, _&&_}
 use mathlib.Core.List.{List}
@@ -9,7 +9,7 @@ use native.Mathlib.Decide.{decLe}
 use native.Mathlib.Omega.{arith}
 use lib.Bits.{bitAnd, bitOr, and-le-l, and-le-r, or-add-and, or-lt}
 use lib.Dec.{eqb, leb}
-use lib.Pow.{pow-pos, pow-mono, shl-exact}
+use lib.Pow.{pow-pos, pow-mono, ones-split, ones-lt, high}
 use borrow.Author.Tests.{lt-ltb, le-ltb, le-leb, lt-leb}
 use Rattle.task.proofs.Laws.First.{found-all}
 use Rattle.task.specs.Facts.{literalsAt, within, consistent, pairConsistent, pairsBeforeFault}
@@ -20,19 +20,24 @@ pub most-all : (facts set : ℕ) → 64 ≤ facts → set < 2 ^ 64 → leb set (
 unfolding within
 most-all facts set h k = le-leb set (2 ^ 64 - 1) (omega arith) ∙ sym (lt-ltb _ _ (lt-of-lt-of-le k (pow-mono h)))
 
-pub one-shifted : (facts : ℕ) → facts < 64 → 1 * 2 ^ facts % 2 ^ 64 ≡ 2 ^ facts
-one-shifted facts h = let e = shl-exact {a = 1} 1 facts 64 (omega arith) (omega arith) in omega arith
-
-pub most-below : (facts set : ℕ) → facts < 64 → leb set (1 * 2 ^ facts % 2 ^ 64 - 1) ≡ within facts set
+pub most-below : (facts set : ℕ) → leb set (2 ^ facts - 1) ≡ within facts set
 unfolding within
-most-below facts set h =
-    let e = one-shifted facts h in
+most-below facts set =
     let p = pow-pos facts in
-    let most = 1 * 2 ^ facts % 2 ^ 64 - 1 in
     elim (decLe (2 ^ facts) set) [
-      | yes k ↦ lt-leb set most (omega arith) ∙ sym (le-ltb _ _ k)
-      | no k ↦ le-leb set most (omega arith) ∙ sym (lt-ltb _ _ (lt-of-not-le k))
+      | yes k ↦ lt-leb set (2 ^ facts - 1) (omega arith) ∙ sym (le-ltb _ _ k)
+      | no k ↦ le-leb set (2 ^ facts - 1) (omega arith) ∙ sym (lt-ltb _ _ (lt-of-not-le k))
     ]
+
+-- the greatest such set is the `facts` lowest of a word's bits
+pub most-shifted : (facts set : ℕ) → facts < 64 → leb set ((2 ^ 64 - 1) / 2 ^ (64 - facts)) ≡ within facts set
+most-shifted facts set h =
+    let rest = 64 - facts in
+    let all : facts + rest ≡ 64 = omega arith in
+    let ones : (2 ^ 64 - 1) / 2 ^ rest ≡ 2 ^ facts - 1 =
+    ap (λ (w : ℕ). (2 ^ w - 1) / 2 ^ rest) (sym all) ∙ ap (λ (v : ℕ). v / 2 ^ rest) (ones-split facts rest)
+    ∙ high (2 ^ facts - 1) rest (ones-lt rest) in
+    ap (leb set) ones ∙ most-below facts set
 
 -- a union is no less than each of its sets
 pub within-both : (facts a b : ℕ) → within facts (bitOr a b) ≡ (within facts a && within facts b)
