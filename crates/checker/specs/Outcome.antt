@@ -38,7 +38,7 @@ pub record Askable (i : Index) (h : Head) (w : Instruction) : Type 0 where
   pub left : h .steps < i .bounds .steps
   pub allowed : allowed (i .bounds) (i .actions) (h .line) w ≡ true
 
--- what is known of a step that no question turns down: that, and room for a call's frame
+-- what is known of a step that no question turns down: it was askable, and a call's frame has room
 unfoldable pub Passes : Index → Head → Outcome → Type 0
 Passes i h (Next next w facts) = Askable i h w × Room i (h .depth) w
 Passes i h (Stopped question place) = Unit {0}
@@ -50,12 +50,12 @@ turned bytes i s (Next next w facts) program = go (state next (counted (movedBy 
 turned bytes i s (Stopped question place) program = stop (refused question place)
 turned bytes i s Closed program = stop (accepted (s .steps) program)
 
--- the outcome of a plan, by its verdict and the program at the end
+-- what a plan comes to, by its verdict and the program at the end
 unfoldable pub followedBy : Verdict → List ℕ → Result
 followedBy (Refused question place) program = refused question place
 followedBy (Accepted steps) program = accepted steps program
 
--- a task that passes, whatever its presets, and a program that passes its questions
+-- a task that passes, with this index and these offsets, and a program that passes 25 to 27 beside its presets
 pub record RunsOf (bytes : List ℕ) (i : Index) (offsets program : List ℕ) : Type 0 where
   pub presets : List ℕ
   pub read : ReadAs bytes (record { index = i; offsets = offsets; presets = presets })

@@ -9,18 +9,17 @@ use Rattle.task.specs.Instruction.{spelled}
 use Rattle.task.specs.Program.{lineOffset, lineBytes, spelledOn, isInstruction}
 use Rattle.task.specs.declared.bounds.Bounds.{Bounds}
 use Rattle.step.specs.declared.position.Frame.{Frame}
-use Rattle.step.specs.declared.position.Position.{Position}
 use Rattle.task.specs.declared.verdict.Verdict.{Verdict}
 use Rattle.task.specs.declared.verdict.Verdict.the-variants.{Accepted, Refused}
 use Rattle.checker.specs.Answer.{Result, refused, accepted}
 use Rattle.checker.specs.Check.{written}
 use Rattle.checker.specs.Plan.{recordOf, closing}
-use Rattle.checker.specs.Write.{Writing, stepOn}
+use Rattle.checker.specs.Write.{stepOn}
 use Rattle.checker.specs.declared.plan.Step.{Step}
 
 -- the byte of a frame, whose procedure is below 8 and whose line below 32
-unfoldable pub numberOf : Frame → ℕ
-numberOf f = 32 * f .procedure .0 + f .line .0
+unfoldable pub byteOf : Frame → ℕ
+byteOf f = 32 * f .procedure .0 + f .line .0
 
 -- the frame of a byte
 unfoldable pub frameOf : ℕ → Frame
@@ -36,15 +35,15 @@ module _ (b : Bounds) (program : List ℕ) where
     pub there : lineOffset b (f .procedure) (f .line) + 3 ≤ length program
     pub spells : isInstruction (spelled (lineBytes b program (f .procedure) (f .line))) ≡ true
 
-  -- the step at a frame, given the lines preset or run; and as the definition of the writer's step has it, the lines after it and its record
+  -- as the writer's definition has them: the step at a frame, given the lines preset or run, the lines after it, and its record
   unfoldable pub stepAt : List ℕ → Frame → Step
   stepAt lines f = stepOn (lineBytes b lines (f .procedure) (f .line)) (spelledOn b program (f .procedure) (f .line))
 
   unfoldable pub linesWith : List ℕ → Frame → List ℕ
   linesWith lines f = written lines (lineOffset b (f .procedure) (f .line)) (stepAt lines f)
 
-  unfoldable pub recordAt : List ℕ → Frame → List ℕ
-  recordAt lines f = recordOf (record { frame = f; step = stepAt lines f })
+  unfoldable pub recordOn : List ℕ → Frame → List ℕ
+  recordOn lines f = recordOf (record { frame = f; step = stepAt lines f })
 
   -- whether every line of a trace's first steps spells an instruction
   unfoldable pub Spelled : List ℕ → ℕ → Type 0
@@ -59,18 +58,14 @@ module _ (b : Bounds) (program : List ℕ) where
     -- their records
     unfoldable pub recordsAfter : ℕ → List ℕ
     recordsAfter zero = []
-    recordsAfter (suc k) = recordsAfter k ++ recordAt (linesAfter k) (frameOf (getD trace k 0))
-
-    -- the writer's state at a position, by the trace of the steps done
-    abbrev pub traced : Position → Writing
-    traced position = record { position = position; lines = linesAfter (position .steps); plan = recordsAfter (position .steps) }
+    recordsAfter (suc k) = recordsAfter k ++ recordOn (linesAfter k) (frameOf (getD trace k 0))
 
     -- what a run comes to, by its verdict
     unfoldable pub tracedAs : Verdict → Result
     tracedAs (Refused question place) = refused question place
     tracedAs (Accepted steps) = accepted steps (recordsAfter steps ++ closing)
 
-  -- the lines of the steps of a run that is accepted spell instructions
+  -- the lines of the steps of an accepted run spell instructions, and there are at most 4,096 steps
   unfoldable pub SpelledTo : List ℕ → Verdict → Type 0
   SpelledTo trace (Refused question place) = Unit {0}
   SpelledTo trace (Accepted steps) = Spelled trace steps × (steps ≤ 4096)

@@ -294,8 +294,8 @@ fn follow_record(
     )
 }
 
-// The whole plan: its verdict, and in `program`, which has the preset lines at first, those that its steps wrote too. Each frame that may be
-// come back to is kept in `callers`, at its depth.
+// The whole plan: its verdict, and in `program`, which has the preset lines at first, those that its steps wrote too. `callers` has, at each
+// depth, the frame that a pop comes back to; it is stored at every step, which costs less than to ask for a call.
 fn follow(
     task: &[u8],
     index: Index,
@@ -338,7 +338,7 @@ fn follow(
     }
 }
 
-// Fills the buffer's first bytes with those of a program or a plan.
+// Fills the buffer's first bytes with those of a program.
 fn fill(buffer: &mut [u8], size: usize, from: &[u8])
     requires { ⌜ (size ≤ length (now buffer)) × (size ≤ length (now from)) ⌝ }
     ensures { λ _. ⌜ now (buffer .exit) ≡ filled size (now (from .entry)) (now (buffer .entry)) ⌝ }

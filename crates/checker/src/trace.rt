@@ -19,13 +19,13 @@ ghost use Prim.Native.Nat.{_+_, _≤_, _<_};
 ghost use lib.ListN.{length};
 ghost use Rattle.checker.specs.Answer.{filled};
 ghost use Rattle.checker.specs.Plan.{closing, planSize};
-ghost use Rattle.checker.specs.Trace.{frameOf, numberOf, withBytes, SpelledAt, linesWith, recordAt, Spelled, recordsAfter};
+ghost use Rattle.checker.specs.Trace.{frameOf, byteOf, withBytes, SpelledAt, linesWith, recordOn, Spelled, linesAfter, recordsAfter};
 ghost use Rattle.checker.specs.Write.{stepOn};
 
 // The byte of a frame.
-pub(crate) fn number_of(frame: Frame) -> u8
+pub(crate) fn byte_of(frame: Frame) -> u8
     requires { ⌜ (frame .procedure .0 < 8) × (frame .line .0 < 32) ⌝ }
-    ensures { λ r. ⌜ r ≡ numberOf frame ⌝ }
+    ensures { λ r. ⌜ r ≡ byteOf frame ⌝ }
 {
     32 * frame.procedure.0 + frame.line.0
 }
@@ -71,7 +71,7 @@ fn put_step(
     requires { ⌜ SpelledAt bounds (now program) frame × (length (now program) ≤ length (now lines)) × (at + 9 ≤ length (now plan)) ⌝ }
     ensures { λ _. ⌜
         (now (lines .exit) ≡ linesWith bounds (now (program .entry)) (now (lines .entry)) frame)
-        × (now (plan .exit) ≡ withBytes (now (plan .entry)) at (recordAt bounds (now (program .entry)) (now (lines .entry)) frame)) ⌝ }
+        × (now (plan .exit) ≡ withBytes (now (plan .entry)) at (recordOn bounds (now (program .entry)) (now (lines .entry)) frame)) ⌝ }
 {
     let offset = line_offset(bounds, frame.procedure, frame.line);
     let triple = three_at(program, offset);
@@ -80,7 +80,8 @@ fn put_step(
     put(plan, at, &record_of(frame, step, triple));
 }
 
-// The plan of a run's steps, by their trace: their records and the closing one fill its first bytes. `lines` has the preset lines at first.
+// The plan of a run's steps, by their trace: their records and the closing one fill its first bytes. `lines` has the preset lines at first, and
+// then those run too.
 pub(crate) fn write_records(
     bounds: Bounds,
     program: &[u8],
@@ -94,11 +95,12 @@ pub(crate) fn write_records(
         × (length (now program) ≤ length (now lines))
         × Spelled bounds (now program) (now trace) steps ⌝ }
     ensures { λ _. ⌜
-        now (plan .exit)
+        (now (plan .exit)
         ≡ filled
         (planSize steps)
         (recordsAfter bounds (now (program .entry)) (now (lines .entry)) (now (trace .entry)) steps ++ closing)
-        (now (plan .entry)) ⌝ }
+        (now (plan .entry)))
+        × (now (lines .exit) ≡ linesAfter bounds (now (program .entry)) (now (lines .entry)) (now (trace .entry)) steps) ⌝ }
 {
     let mut k = 0;
     while k < steps {

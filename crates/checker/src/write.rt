@@ -1,7 +1,7 @@
 // The writer: a program run on all the cases, and the plan of its steps. Kind 17 repeats a line that is preset or was run earlier, 16
 // writes any other; 5 closes the file.
 use crate::questions::PLAN_BUFFER;
-use crate::trace::number_of;
+use crate::trace::byte_of;
 use crate::trace::write_records;
 use step::head::Head;
 use step::perform::Asked;
@@ -24,8 +24,8 @@ ghost use Rattle.checker.specs.Outcome.{RunsOf};
 ghost use Rattle.checker.specs.Trace.{tracedAs, SpelledTo};
 ghost use Rattle.checker.specs.Write.{run, write};
 
-// The whole run: its verdict, and in `trace` the byte of each step's line. Each frame that may be come back to is kept in `callers`, at
-// its depth.
+// The whole run: its verdict, and in `trace` the byte of each step's line. `callers` has, at each depth, the frame that a pop comes back
+// to, as in the checker.
 fn run(
     task: &[u8],
     index: Index,
@@ -65,7 +65,7 @@ fn run(
                 };
             }
             Asked::Facts(facts) => {
-                trace[steps] = number_of(top);
+                trace[steps] = byte_of(top);
                 let depth = head.depth as usize;
                 callers[depth] = head.caller();
                 let below = callers[depth - 1];

@@ -1,7 +1,7 @@
 -- Single steps make the writer's steps. At each turn of the writer the record after as many single steps as the writer has done is the writer's position; the writer's next
 -- step is the program's, and so is the single step there. Where the writer accepts, that position is the finish.
 -- Assumes nothing.
-use Prim.Native.Nat.{ℕ, suc, _+_, _<_}
+use Prim.Native.Nat.{ℕ, suc, _<_}
 use mathlib.Core.Path.{_≡_, refl, sym, ap, subst, _∙_}
 use mathlib.Core.Bool.{Bool, true, false}
 use mathlib.Core.List.{List}

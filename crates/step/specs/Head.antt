@@ -1,5 +1,6 @@
--- The head of a position, what of it the checker and the writer keep while they run: all but the frames below the top one. Its moves are those of
--- the position (law `moved-stands`). Only contracts of functions below the entries cite this.
+-- The head of a position, what of it the checker and the writer keep while they run: all but the frames below the top one. Before each step they
+-- keep `callerOf` beside it, at its depth; with that its moves are those of the position (law `moved-stands`). Only contracts of functions below the
+-- entries cite this.
 use Prim.Native.Nat.{ℕ, _+_, _-_, _≤_, _<_}
 use mathlib.Core.Path.{_≡_}
 use mathlib.Core.List.{List}
@@ -28,13 +29,13 @@ unfoldable pub startingHead : ℕ → Head
 startingHead start = record { facts = start; steps = 0; case = 0; depth = 1; procedure = record { 0 = 0 }; line = record { 0 = 0 } }
 
 -- the top frame, and the one to come back to after a call: the next line
-unfoldable pub frameOf : Head → Frame
-frameOf h = record { procedure = h .procedure; line = h .line }
+unfoldable pub topOf : Head → Frame
+topOf h = record { procedure = h .procedure; line = h .line }
 
 unfoldable pub callerOf : Head → Frame
 callerOf h = record { procedure = h .procedure; line = record { 0 = h .line .0 + 1 } }
 
--- the moves, as those of a position; a pop is given the frame below
+-- the moves; the caller's grown line is in the frame kept beside the head, and a pop is given the frame below
 unfoldable pub jumpedHead : Head → Line → Head
 jumpedHead h line = placed h (h .depth) (record { procedure = h .procedure; line = line })
 
@@ -85,11 +86,11 @@ pub record Stands (h : Head) (callers : List Frame) (s : Position) : Type 0 wher
   pub steps : s .steps ≡ h .steps
   pub case : s .case ≡ h .case
   pub depth : s .depth ≡ h .depth
-  pub top : top s ≡ frameOf h
+  pub top : top s ≡ topOf h
   pub below : (k : ℕ) → k + 1 < h .depth → getD (s .frames) k origin ≡ getD callers (k + 1) origin
   pub size : length (s .frames) ≡ 16
 
--- what a move requires, so that no number leaves its type
+-- what a step requires, its move, its count and the frame kept beside the head, so that no number leaves its type
 pub record Fits (h : Head) (w : Instruction) : Type 0 where
   pub above : 0 < h .depth
   pub depth : h .depth ≤ 16

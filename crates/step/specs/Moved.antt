@@ -1,6 +1,7 @@
--- One step in two parts, as the code makes it: the questions are asked, and then the position moves. Only contracts of functions below the
--- entries cite it; law `asked-performs` has it that a question's no and the move are what `perform` comes to.
+-- One step in two parts, as the code makes it: the questions are asked, and then the position moves. What an answer leads to is what `perform`
+-- comes to: laws `asked-no` and `asked-moves`. Only contracts of functions below the entries cite it.
 use Prim.Native.Nat.{ℕ}
+use mathlib.Core.Path.{_≡_}
 use mathlib.Core.List.{List}
 use mathlib.Core.Bool.{cond}
 use lib.Dec.{ltb}
@@ -14,6 +15,11 @@ use Rattle.step.specs.Position.{advanced, jumped, pushed, popped, withFa
 use Rattle.step.specs.declared.perform.Asked.{Asked}
 use Rattle.step.specs.declared.perform.Asked.the-variants.{No, Facts}
 use Rattle.step.specs.declared.position.Position.{Position}
+
+-- an answer with facts has those before the step: so of every instruction but an act
+unfoldable pub Keeps : ℕ → Asked → Type 0
+Keeps facts (No question) = Unit {0}
+Keeps facts (Facts after) = after ≡ facts
 
 module _ (bytes : List ℕ) (i : Index) (s : Position) where
   -- where an instruction that no question turns down moves a position, given the facts that an action leaves

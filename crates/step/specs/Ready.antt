@@ -1,5 +1,6 @@
--- What the functions below the single step require, so that no index, sum or shift leaves its type. The questions that come before them give
--- it: 1 to 9 the task's bounds, 31 the position's, 14 the steps', and decoding the instruction's.
+-- What the functions below the entries require, so that no index, sum or shift leaves its type. The questions that come before them give it:
+-- 1 to 9 the task's bounds, and that its actions and cases are there, 31 the position's ranges, 14 the steps', 21 the room for a frame, and decoding
+-- the instruction's.
 use Prim.Native.Nat.{ℕ, _+_, _*_, _≤_, _<_}
 use mathlib.Core.Path.{_≡_}
 use mathlib.Core.Bool.{true}
@@ -51,7 +52,7 @@ pub record Ready (i : Index) (s : Position) (w : Instruction) : Type 0 where
   pub left : s .steps < i .bounds .steps
   pub allowed : allowed (i .bounds) (i .actions) (top s .line) w ≡ true
 
--- an instruction whose action is one of the task's
+-- an act names one of the task's actions
 abbrev pub Known : Index → Instruction → Type 0
 Known i w = (action : ℕ) → w ≡ Act action → action < i .actions
 

@@ -1,5 +1,5 @@
-// What the checker and the writer keep of a position while they run: all but the frames below the top one. Each of those is kept beside
-// it, at the depth at which it called. So a step copies no stack.
+// What the checker and the writer keep of a position while they run: all but the frames below the top one, which are kept in an array
+// beside it, each at the depth at which it called. So a step copies no stack.
 use crate::facts::has;
 use crate::position::Frame;
 use task::index::Index;
@@ -10,9 +10,9 @@ use task::instruction::Proc;
 ghost use mathlib.Core.Path.{_≡_};
 ghost use Prim.Native.Nat.{_+_, _*_, _≤_, _<_};
 ghost use lib.ListN.{length};
-ghost use Rattle.step.specs.Head.{startingHead, frameOf, callerOf, jumpedHead, advancedHead, pushedHead, poppedHead, headWith, nextHead, finishedHead, countedHead, gotoHead, endedHead, movedHead, Fits};
+ghost use Rattle.step.specs.Head.{startingHead, topOf, callerOf, jumpedHead, advancedHead, pushedHead, poppedHead, headWith, nextHead, finishedHead, countedHead, gotoHead, endedHead, movedHead, Fits};
 
-// A position without the frames below its top one. The facts stand last: so the compiler keeps each field in a register of its own.
+// A position without the frames below its top one. The facts stand last, so that the compiler keeps each field in a register of its own.
 pub struct Head {
     pub steps: u16,
     pub case: u8,
@@ -39,7 +39,7 @@ impl Head {
 
     // The top frame.
     pub fn top(self) -> Frame
-        ensures { λ r. ⌜ r ≡ frameOf self ⌝ }
+        ensures { λ r. ⌜ r ≡ topOf self ⌝ }
     {
         let procedure = self.procedure;
         let line = self.line;

@@ -30,7 +30,7 @@ ghost use mathlib.Core.List.{List};
 ghost use lib.Dec.{ltb};
 ghost use Rattle.task.specs.declared.instruction.Instruction.the-variants.{Act, Call, End};
 ghost use Rattle.step.specs.Facts.{has};
-ghost use Rattle.step.specs.Moved.{movedBy, performedAs};
+ghost use Rattle.step.specs.Moved.{Keeps, movedBy, performedAs};
 ghost use Rattle.step.specs.Position.{advanced, jumped, popped};
 ghost use Rattle.step.specs.Ready.{Held, Framed, Movable, Open, Ready, Known, Room};
 ghost use Rattle.step.specs.declared.position.Position.{Position};
@@ -82,7 +82,8 @@ fn act(task: &[u8], at: usize, facts: u64) -> Asked
 // Call: question 21.
 fn call(stack: u8, facts: u64, depth: u8) -> Asked
     ensures { λ r. ⌜ ((bytes : List ℕ) (i : Index) (s : Position) (procedure : Proc) →
-        s .depth ≡ depth → performedAs bytes i s (Call procedure) r ≡ call stack procedure s) ⌝ }
+        s .depth ≡ depth → performedAs bytes i s (Call procedure) r ≡ call stack procedure s)
+        × Keeps facts r ⌝ }
 {
     if stack <= depth {
         return Asked::No(STACK);
@@ -97,7 +98,8 @@ fn end(task: &[u8], index: Index, facts: u64, case: u8, depth: u8) -> Asked
         s .facts ≡ facts
         → s .case ≡ case
         → s .depth ≡ depth
-        → performedAs (now (task .entry)) index s End r ≡ end (now (task .entry)) index s) ⌝ }
+        → performedAs (now (task .entry)) index s End r ≡ end (now (task .entry)) index s)
+        × Keeps facts r ⌝ }
 {
     if 1 < depth {
         return Asked::Facts(facts);
@@ -125,7 +127,8 @@ pub fn ask(
         s .facts ≡ facts
         → s .case ≡ case
         → s .depth ≡ depth
-        → performedAs (now (task .entry)) index s w r ≡ perform (now (task .entry)) index (now (offsets .entry)) s w) ⌝ }
+        → performedAs (now (task .entry)) index s w r ≡ perform (now (task .entry)) index (now (offsets .entry)) s w)
+        × (((action : ℕ) → w ≡ Act action → ⊥) → Keeps facts r) ⌝ }
 {
     match w {
         Instruction::Empty => Asked::No(EMPTY),
@@ -174,7 +177,7 @@ fn ended(task: &[u8], index: Index, position: Position) -> Position
     }
 }
 
-// The position after an instruction, given the facts after an action.
+// The position after an instruction that no question turned down, given the facts after an action.
 fn moved(task: &[u8], index: Index, position: Position, facts: u64, w: Instruction) -> Position
     requires { ⌜ Ready index position w × Room index (position .depth) w × (index .first + 28 * index .cases ≤ length (now task)) ⌝ }
     ensures { λ r. ⌜ r ≡ movedBy (now (task .entry)) index position facts w ⌝ }

@@ -1,9 +1,10 @@
 -- Fact sets and literals. A fact set is a number of 8 bytes in which bit f says whether fact f is in it. A pair of them states literals:
 -- the first has the facts that are to be true, the second those that are to be false. Question 6 is about the sets and pairs of a task.
-use Prim.Native.Nat.{ℕ, _+_, _*_, _^_}
+use Prim.Native.Nat.{ℕ, _+_, _*_, _^_, _<_}
+use mathlib.Core.Path.{_≡_}
 use mathlib.Core.List.{List}
 use mathlib.Core.Bool.{Bool, _&&_}
-use lib.Dec.{ltb, eqb}
+use lib.Dec.{leb, ltb, eqb}
 use lib.Bits.{bitAnd}
 use Rattle.records.specs.Numbers.{u64At}
 use Rattle.task.specs.First.{firstNo}
@@ -16,6 +17,10 @@ literalsAt bytes at = record { positive = u64At bytes at; negative = u64At bytes
 -- whether a set has facts below `facts` alone
 unfoldable pub within : ℕ → ℕ → Bool
 within facts set = ltb set (2 ^ facts)
+
+-- the greatest set of facts below `facts`: a set has such facts alone exactly if it is no greater
+abbrev pub Greatest : ℕ → ℕ → Type 0
+Greatest facts most = (set : ℕ) → set < 2 ^ 64 → leb set most ≡ within facts set
 
 -- question 6 on one pair: both sets have facts below `facts` alone, and no fact is in both
 unfoldable pub consistent : ℕ → Literals → Bool

@@ -1,10 +1,9 @@
 // Fact sets and literals, and question 6 about them.
 use records::numbers::eight_at;
 ghost use mathlib.Core.Path.{_≡_};
-ghost use Prim.Native.Nat.{ℕ, _+_, _*_, _^_, _≤_, _<_};
-ghost use lib.Dec.{leb};
+ghost use Prim.Native.Nat.{ℕ, _+_, _*_, _≤_};
 ghost use lib.ListN.{length};
-ghost use Rattle.task.specs.Facts.{literalsAt, within, consistent, pairsBeforeFault};
+ghost use Rattle.task.specs.Facts.{literalsAt, within, Greatest, consistent, pairsBeforeFault};
 
 // A pair of fact sets: the facts to be true and the facts to be false.
 pub struct Literals {
@@ -23,10 +22,10 @@ pub(crate) fn literals_at(bytes: &[u8], at: usize) -> Literals
     }
 }
 
-// The greatest set of facts below `facts`: a set has such facts alone where it is no greater. Of `(1 << facts) - 1` the compiler would make a
-// shift of each set that is compared with it.
+// The greatest set of facts below `facts`: a set has such facts alone exactly if it is no greater. Of `(1 << facts) - 1` the compiler would make
+// a shift of each set that is compared with it.
 fn most(facts: u8) -> u64
-    ensures { λ r. ⌜ ((set : ℕ) → set < 2 ^ 64 → leb set r ≡ within facts set) ⌝ }
+    ensures { λ r. ⌜ Greatest facts r ⌝ }
 {
     if facts == 0 {
         return 0;
@@ -44,13 +43,11 @@ pub fn within(facts: u8, set: u64) -> bool
     set <= most(facts)
 }
 
-// Question 6 on one pair, given the greatest set: both sets are no greater where their union is not.
+// Question 6 on one pair, given the greatest set: both sets are no greater exactly if their union is not.
 fn consistent_to(most: u64, literals: Literals) -> bool
-    ensures { λ r. ⌜ ((facts : ℕ) →
-        ((set : ℕ) → set < 2 ^ 64 → leb set most ≡ within facts set)
-        → r ≡ consistent facts literals) ⌝ }
+    ensures { λ r. ⌜ ((facts : ℕ) → Greatest facts most → r ≡ consistent facts literals) ⌝ }
 {
-    (literals.positive | literals.negative <= most) & (literals.positive & literals.negative == 0)
+    ((literals.positive | literals.negative) <= most) & (literals.positive & literals.negative == 0)
 }
 
 // Question 6 on one pair.

@@ -189,7 +189,7 @@ pub fn put_triple(bytes: &mut [u8], at: usize, w: Triple)
     put(bytes, at + 2, w.q);
 }
 
-// The instruction that three bytes spell, which spell one.
+// The instruction that three bytes spell, where they spell one.
 pub fn spelled(w: Triple) -> Instruction
     requires { ⌜ isInstruction (spelled w) ≡ true ⌝ }
     ensures { λ r. ⌜ spelled w ≡ Is r ⌝ }

@@ -41,8 +41,7 @@ pub fn instruction_on(index: Index, program: &[u8], procedure: Proc, line: Line)
     decode(bounds, index.actions, line, triple)
 }
 
-// The instruction on a line that has its three bytes and an instruction that is allowed there, as every line of a program that
-// passes has: its bytes spell it.
+// The instruction on a line of a program that passes questions 25 and 26: its bytes are there, and spell one that is allowed.
 pub fn line_instruction(index: Index, program: &[u8], procedure: Proc, line: Line) -> Instruction
     requires { ⌜ (lineOffset (index .bounds) procedure line + 3 ≤ length (now program))
         × (isInstruction (instructionOn index (now program) procedure line) ≡ true) ⌝ }

@@ -9,7 +9,7 @@ use lib.Dec.{eqb}
 use lib.ListN.{length}
 use native.Mathlib.Omega.{arith}
 use borrow.Author.Tests.{lt-ltb, le-ltb, eq-eqb, ne-eqb, eqb-true}
-use Rattle.records.specs.Loop.{Turn, stop, go}
+use Rattle.records.specs.Loop.{Turn}
 use Rattle.records.specs.Numbers.{byteAt}
 use Rattle.records.specs.Record.{recordAt}
 use Rattle.records.specs.declared.record.Found.{Found}
@@ -31,7 +31,7 @@ use Rattle.step.specs.Perform.{perform}
 use Rattle.step.specs.Position.{sameFrame, top}
 use Rattle.step.specs.Questions.{STEPS}
 use Rattle.step.specs.Ready.{Known, Room}
-use Rattle.step.specs.Head.{frameOf}
+use Rattle.step.specs.Head.{topOf}
 use Rattle.step.specs.Moved.{performedAs}
 use Rattle.step.specs.declared.perform.Asked.{Asked}
 use Rattle.step.specs.declared.perform.Asked.the-variants.{No, Facts}
@@ -74,10 +74,10 @@ module _ (step : Step) (v : Instruction) (w : Triple) (k : w ≡ encode (instruc
   line-written e program at = rw e (ap (withTriple program at) (rw e at k))
 
 -- an instruction on the top frame's line that questions 14 to 17 let pass may be asked about
-pub step-askable : (i : Index) (h : Head) → h .case < i .cases → h .steps < i .bounds .steps → (f g : Frame) → g ≡ frameOf h → (m : Bool)
+pub step-askable : (i : Index) (h : Head) → h .case < i .cases → h .steps < i .bounds .steps → (f g : Frame) → g ≡ topOf h → (m : Bool)
     → m ≡ sameFrame f g → m ≡ true → (step : Step) → allowed (i .bounds) (i .actions) (f .line) (instructionOf step) ≡ true
     → (w : Instruction) → w ≡ instructionOf step → Askable i h w
-unfolding frameOf
+unfolding topOf
 step-askable i h o few f g e m d y step a w ew =
     let line : f .line ≡ h .line = ap (λ (x : Frame). x .line) (same-frame f g (sym d ∙ y) ∙ e) in
     record { case = o; left = few; allowed = rw (ew, ← line) a }

@@ -6,7 +6,6 @@ use mathlib.Core.Path.{_≡_, sym, ap, _∙_}
 use mathlib.Core.List.{List}
 use native.Mathlib.Omega.{arith}
 use lib.ListN.{length, getD, set, length-set}
-use Rattle.records.specs.Loop.{go}
 use Rattle.task.specs.Index.{caseAt}
 use Rattle.task.specs.declared.index.Index.{Index}
 use Rattle.task.specs.declared.index.Task.{Task}
@@ -15,7 +14,7 @@ use Rattle.task.proofs.Laws.Passed.{Passed}
 use Rattle.step.specs.Head.{Stands, Fits, startingHead, callerOf, countedHead, movedHead}
 use Rattle.step.specs.Moved.{movedBy}
 use Rattle.step.specs.Position.{origin, starting, counted}
-use Rattle.step.specs.Ready.{Bounded, Held, Room}
+use Rattle.step.specs.Ready.{Bounded, Room}
 use Rattle.step.specs.declared.head.Head.{Head}
 use Rattle.step.specs.declared.position.Frame.{Frame}
 use Rattle.step.specs.declared.position.Position.{Position}

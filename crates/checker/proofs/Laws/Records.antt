@@ -20,7 +20,7 @@ use Rattle.step.specs.declared.position.Frame.{Frame}
 use Rattle.checker.specs.Answer.{filled}
 use Rattle.checker.specs.Check.{written}
 use Rattle.checker.specs.Plan.{recordOf, closing, planSize, instructionOf}
-use Rattle.checker.specs.Trace.{withBytes, stepAt, linesWith, recordAt, recordsAfter}
+use Rattle.checker.specs.Trace.{withBytes, stepAt, linesWith, recordOn, recordsAfter}
 use Rattle.checker.specs.Write.{stepOn}
 use Rattle.checker.specs.declared.plan.Step.{Step}
 use Rattle.checker.proofs.Laws.Trace.{records-next, recordNext, next-length, records-length}
@@ -75,8 +75,8 @@ module _ (b : Bounds) (program lines : List ℕ) (f : Frame) (offset : ℕ) (eo 
   step-lines after e = e ∙ rw (eo, is-step) refl
 
   pub step-put : (added : List ℕ) → added ≡ recordOf (record { frame = f; step = step }) → (at : ℕ) (plan after : List ℕ)
-      → after ≡ withBytes plan at added → after ≡ withBytes plan at (recordAt b program lines f)
-  unfolding recordAt
+      → after ≡ withBytes plan at added → after ≡ withBytes plan at (recordOn b program lines f)
+  unfolding recordOn
   step-put added ea at plan after e = e ∙ rw (ea, is-step) refl
 
 module _ (b : Bounds) (program presets trace : List ℕ) where

@@ -41,10 +41,10 @@ use Rattle.step.proofs.Laws.Moved.{asked-no, asked-moves, asked-room}
 use Rattle.step.proofs.Laws.Possible.{parts, case-open}
 use Rattle.step.proofs.Laws.Ready.{passed-held}
 use Rattle.checker.specs.Outcome.{RunsOf}
-use Rattle.checker.specs.Trace.{numberOf, Spelled, traced, tracedAs, SpelledTo}
+use Rattle.checker.specs.Trace.{byteOf, Spelled, tracedAs, SpelledTo}
 use Rattle.checker.specs.Write.{run}
 use Rattle.checker.proofs.Laws.Stepping.{allowed-known, possible-depth, head-fits, step-stands}
-use Rattle.checker.proofs.Laws.Trace.{top-fits, traceOn, trace-begins, trace-ends, trace-stops, trace-goes, trace-spelled, spelled-none}
+use Rattle.checker.proofs.Laws.Trace.{traced, top-fits, traceOn, trace-begins, trace-ends, trace-stops, trace-goes, trace-spelled, spelled-none}
 use Rattle.checker.proofs.Laws.Turns.{Standing, read-passed}
 use Rattle.checker.proofs.Laws.Write.{runFrom}
 
@@ -141,7 +141,7 @@ module _ (bytes : List ℕ) (i : Index) (offsets program : List ℕ) (of : RunsO
       runs-out l = stops STEPS (sym (steps-used bytes i offsets program s (omega (arith, r .stands .steps, l))))
 
       -- `f` is the top frame
-      module _ (left : h .steps < i .bounds .steps) (f : Frame) (ef : f ≡ head.frameOf h) where
+      module _ (left : h .steps < i .bounds .steps) (f : Frame) (ef : f ≡ head.topOf h) where
         few : s .steps < i .bounds .steps
         few = omega (arith, r .stands .steps, left)
 
@@ -168,7 +168,7 @@ module _ (bytes : List ℕ) (i : Index) (offsets program : List ℕ) (of : RunsO
         -- `w` is the instruction on its line
         module _ (w : Instruction) (here : instructionOn i program (f .procedure) (f .line) ≡ Is w) where
           allowed-here : allowed (i .bounds) (i .actions) (h .line) w ≡ true
-          unfolding instructionOn head.frameOf
+          unfolding instructionOn head.topOf
           allowed-here = rw (ap (λ (g : Frame). g .line) ef) at (decode-allowed (i .bounds) (i .actions) (f .line) _ w here)
 
           pub runs-known : Known i w
@@ -191,7 +191,7 @@ module _ (bytes : List ℕ) (i : Index) (offsets program : List ℕ) (of : RunsO
             runs-stop question k = stops question (sym (asked-no bytes i offsets s w asked performs question k ∙ is-step))
 
             -- one step more
-            pub runs-on : (facts : ℕ) → asked ≡ Facts facts → (number : ℕ) → number ≡ numberOf f → (caller : Frame) → caller ≡ callerOf h
+            pub runs-on : (facts : ℕ) → asked ≡ Facts facts → (number : ℕ) → number ≡ byteOf f → (caller : Frame) → caller ≡ callerOf h
                 → (below : Frame) → below ≡ getD (set callers (h .depth) caller) (h .depth - 1) origin
                 → (m : Head) → m ≡ movedHead bytes i h below facts w → (n : Head) → n ≡ countedHead m
                 → Running bytes i offsets program (set trace (h .steps) number) n (set callers (h .depth) caller)
@@ -214,7 +214,7 @@ module _ (bytes : List ℕ) (i : Index) (offsets program : List ℕ) (of : RunsO
                   whole =
                       λ presets. sym (trace-goes bytes i offsets program presets trace s opened room small q ran) ∙ r .whole presets;
                   spelled = trace-spelled bytes i offsets program (of .presets) trace s opened room small q ran (rw (← on-top) (runs-line .0)) (r .spelled);
-                  room = length-set trace (s .steps) (numberOf (top s)) ∙ r .room;
+                  room = length-set trace (s .steps) (byteOf (top s)) ∙ r .room;
                   kept = length-set callers (h .depth) (callerOf h) ∙ r .kept;
                   most = most;
                   deep = deep _ _ q stands possible;

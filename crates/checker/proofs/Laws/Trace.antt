@@ -32,16 +32,25 @@ use Rattle.step.proofs.Laws.Perform.{step-ran, ran-steps}
 use Rattle.step.proofs.Laws.Possible.{parts, case-open}
 use Rattle.checker.specs.Answer.{refused, accepted}
 use Rattle.checker.specs.Plan.{closing}
-use Rattle.checker.specs.Trace.{numberOf, frameOf, SpelledAt, stepAt, linesWith, recordAt, Spelled, linesAfter, recordsAfter, traced}
-use Rattle.checker.specs.Write.{onStep, writeTurn, start, run}
+use Rattle.checker.specs.Trace.{byteOf, frameOf, SpelledAt, stepAt, linesWith, recordOn, Spelled, linesAfter, recordsAfter}
+use Rattle.checker.specs.Write.{Writing, onStep, writeTurn, start, run}
 use Rattle.checker.proofs.Laws.Check.{frame-is}
 use Rattle.checker.proofs.Laws.Turns.{Standing}
 use Rattle.checker.proofs.Laws.Write.{record-length, finished-accepts, runFrom, run-start, run-turn}
 
+-- the writer's state at a position, by the trace of the steps done
+abbrev pub traced : Bounds → List ℕ → List ℕ → List ℕ → Position → Writing
+traced b program presets trace position =
+    record {
+      position = position;
+      lines = linesAfter b program presets trace (position .steps);
+      plan = recordsAfter b program presets trace (position .steps);
+    }
+
 -- the frame of a frame's byte is that frame
-pub number-frame : (f : Frame) → f .line .0 < 32 → frameOf (numberOf f) ≡ f
-unfolding numberOf frameOf
-number-frame f h = frame-is (omega arith) (omega arith)
+pub byte-frame : (f : Frame) → f .line .0 < 32 → frameOf (byteOf f) ≡ f
+unfolding byteOf frameOf
+byte-frame f h = frame-is (omega arith) (omega arith)
 
 module _ (b : Bounds) (program presets trace : List ℕ) where
   pub lines-none : presets ≡ linesAfter b program presets trace 0
@@ -54,16 +63,16 @@ module _ (b : Bounds) (program presets trace : List ℕ) where
   lines-next k = rw (add-one k) refl
 
   pub records-next : (k : ℕ) → recordsAfter b program presets trace (k + 1)
-      ≡ recordsAfter b program presets trace k ++ recordAt b program (linesAfter b program presets trace k) (frameOf (getD trace k 0))
+      ≡ recordsAfter b program presets trace k ++ recordOn b program (linesAfter b program presets trace k) (frameOf (getD trace k 0))
   unfolding recordsAfter
   records-next k = rw (add-one k) refl
 
   -- the record of one more step, and all of them: they have 9 bytes each
   abbrev pub recordNext : ℕ → List ℕ
-  recordNext k = recordAt b program (linesAfter b program presets trace k) (frameOf (getD trace k 0))
+  recordNext k = recordOn b program (linesAfter b program presets trace k) (frameOf (getD trace k 0))
 
   pub next-length : (k : ℕ) → length (recordNext k) ≡ 9
-  unfolding recordAt
+  unfolding recordOn
   next-length k = record-length _
 
   pub records-length : (k : ℕ) → length (recordsAfter b program presets trace k) ≡ 9 * k
@@ -87,21 +96,21 @@ module _ (b : Bounds) (program presets trace : List ℕ) (j n : ℕ) where
 
 -- a frame's byte that is put at step `k`
 module _ (trace : List ℕ) (k : ℕ) (f : Frame) (room : k < length trace) (small : f .line .0 < 32) where
-  frame-put : frameOf (getD (set trace k (numberOf f)) k 0) ≡ f
-  frame-put = ap frameOf (getD-set-same trace k (numberOf f) 0 room) ∙ number-frame f small
+  frame-put : frameOf (getD (set trace k (byteOf f)) k 0) ≡ f
+  frame-put = ap frameOf (getD-set-same trace k (byteOf f) 0 room) ∙ byte-frame f small
 
   pub trace-lines : (b : Bounds) (program presets : List ℕ)
-      → linesAfter b program presets (set trace k (numberOf f)) (k + 1) ≡ linesWith b program (linesAfter b program presets trace k) f
+      → linesAfter b program presets (set trace k (byteOf f)) (k + 1) ≡ linesWith b program (linesAfter b program presets trace k) f
   trace-lines b program presets =
-      lines-next b program presets _ k ∙ rw (frame-put, lines-kept b program presets trace k (numberOf f) k (omega arith)) refl
+      lines-next b program presets _ k ∙ rw (frame-put, lines-kept b program presets trace k (byteOf f) k (omega arith)) refl
 
   pub trace-records : (b : Bounds) (program presets : List ℕ)
-      → recordsAfter b program presets (set trace k (numberOf f)) (k + 1)
-      ≡ recordsAfter b program presets trace k ++ recordAt b program (linesAfter b program presets trace k) f
+      → recordsAfter b program presets (set trace k (byteOf f)) (k + 1)
+      ≡ recordsAfter b program presets trace k ++ recordOn b program (linesAfter b program presets trace k) f
   trace-records b program presets =
       records-next b program presets _ k
       ∙ rw
-      (frame-put, lines-kept b program presets trace k (numberOf f) k (omega arith), records-kept b program presets trace k (numberOf f) k (omega arith))
+      (frame-put, lines-kept b program presets trace k (byteOf f) k (omega arith), records-kept b program presets trace k (byteOf f) k (omega arith))
       refl
 
 -- in a task that passes, a possible position with a case open has a top frame that fits a byte
@@ -115,7 +124,7 @@ top-fits bytes t passed p h o =
 
 -- the trace after the step at a position: the top frame's byte at the number of the steps done
 abbrev pub traceOn : List ℕ → Position → List ℕ
-traceOn trace p = set trace (p .steps) (numberOf (top p))
+traceOn trace p = set trace (p .steps) (byteOf (top p))
 
 -- the run by the trace
 module _ (bytes : List ℕ) (i : Index) (offsets program presets : List ℕ) where
@@ -158,7 +167,7 @@ module _ (bytes : List ℕ) (i : Index) (offsets program presets : List ℕ) whe
 
         pub trace-turn : writeTurn bytes i offsets program (traced (i .bounds) program presets trace p)
             ≡ go (traced (i .bounds) program presets (traceOn trace p) q)
-        unfolding onStep linesWith recordAt stepAt
+        unfolding onStep linesWith recordOn stepAt
         trace-turn =
             turn-steps (go q) e
             ∙ rw (
@@ -187,7 +196,7 @@ module _ (bytes : List ℕ) (i : Index) (offsets program presets : List ℕ) whe
           where
             by : (k ≡ p .steps) ⊎ (k < p .steps) → SpelledAt (i .bounds) program (frameOf (getD (traceOn trace p) k 0))
             by (inl at) = rw (at, frame-put trace (p .steps) (top p) room small) (record { there = there; spells = top-spells })
-            by (inr before) = rw (getD-set-other trace (p .steps) k (numberOf (top p)) 0 (omega arith)) (h k before)
+            by (inr before) = rw (getD-set-other trace (p .steps) k (byteOf (top p)) 0 (omega arith)) (h k before)
 
 -- of no step, every line spells an instruction
 pub spelled-none : (b : Bounds) (program trace : List ℕ) → Spelled b program trace 0

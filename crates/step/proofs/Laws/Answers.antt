@@ -23,10 +23,10 @@ use Rattle.task.specs.declared.instruction.Decoded.{Decoded}
 use Rattle.task.specs.declared.instruction.Decoded.the-variants.{Is, Nothing}
 use Rattle.task.specs.Program.{instructionOn}
 use Rattle.step.specs.Effects.{effectsOf, changesOf, clashFree, changed}
-use Rattle.step.specs.Facts.{has, holds}
+use Rattle.step.specs.Facts.{holds}
 use Rattle.step.specs.Moved.{movedBy, performedAs}
 use Rattle.step.specs.Perform.{act, goto, call, afterCase, end, perform, performDecoded, runLine, runStep}
-use Rattle.step.specs.Position.{top, jumped, advanced, pushed, popped, withFacts, nextCase, finished, counted}
+use Rattle.step.specs.Position.{top, nextCase, finished, counted}
 use Rattle.step.specs.Questions.{STEPS, PRECONDITION, CLASH, STACK, GOAL, EMPTY}
 use Rattle.step.specs.declared.effects.Changes.{Changes}
 use Rattle.step.specs.declared.perform.Asked.{Asked}

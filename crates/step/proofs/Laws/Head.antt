@@ -6,7 +6,7 @@ use mathlib.Core.Bool.{Bool, true, false, cond}
 use mathlib.Core.List.{List}
 use native.Mathlib.Decide.{ℕ-discrete}
 use native.Mathlib.Omega.{arith}
-use lib.ListN.{length, getD, set, length-set, length-replicate}
+use lib.ListN.{getD, set, length-set}
 use lib.Seq.{getD-set-same, getD-set-other}
 use lib.Dec.{ltb}
 use borrow.Author.Tests.{lt-ltb, le-ltb, ltb-true}
@@ -19,7 +19,7 @@ use Rattle.task.specs.declared.instruction.Instruction.the-variants.{Empty, Act
 use Rattle.task.specs.declared.instruction.Line.{Line}
 use Rattle.task.specs.declared.instruction.Proc.{Proc}
 use Rattle.step.specs.Facts.{has}
-use Rattle.step.specs.Head.{Stands, startingHead, frameOf, callerOf, jumpedHead, advancedHead, pushedHead, poppedHead, headWith, nextHead, finishedHead, countedHead, gotoHead, endedHead, movedHead}
+use Rattle.step.specs.Head.{Stands, startingHead, topOf, callerOf, jumpedHead, advancedHead, pushedHead, poppedHead, headWith, nextHead, finishedHead, countedHead, gotoHead, endedHead, movedHead}
 use Rattle.step.specs.Moved.{movedBy}
 use Rattle.step.specs.Perform.{afterCase}
 use Rattle.step.specs.Position.{origin, starting, top, jumped, advanced, pushed, popped, withFacts, nextCase, finished, counted}
@@ -47,13 +47,13 @@ module _ (bytes : List ℕ) (i : Index) (h : Head) (below : Frame) where
       f ∙ cond-no _ false _ _ (sym (le-ltb (h .case + 1) (i .cases) m)) refl ∙ cond-no _ false _ _ (sym (le-ltb 1 (h .depth) l)) refl
 
 pub starting-stands : (start : ℕ) (callers : List Frame) → Stands (startingHead start) callers (starting 0 start)
-unfolding startingHead starting top frameOf origin
+unfolding startingHead starting top topOf origin
 starting-stands start callers =
     record { facts = refl; steps = refl; case = refl; depth = refl; top = refl; below = λ k l. absurd (omega (arith, l)); size = refl }
 
 module _ (h : Head) (callers : List Frame) (s : Position) (st : Stands h callers s) where
   pub jumped-stands : h .depth ≤ 16 → (line : Line) → Stands (jumpedHead h line) callers (jumped s line)
-  unfolding jumpedHead jumped top frameOf
+  unfolding jumpedHead jumped top topOf
   jumped-stands d line =
       record {
         facts = st .facts;
@@ -68,7 +68,7 @@ module _ (h : Head) (callers : List Frame) (s : Position) (st : Stands h callers
       }
 
   pub advanced-stands : h .depth ≤ 16 → Stands (advancedHead h) callers (advanced s)
-  unfolding advanced advancedHead jumpedHead callerOf frameOf
+  unfolding advanced advancedHead jumpedHead callerOf topOf
   advanced-stands d =
       let same : top s .line .0 ≡ h .line .0 = ap (λ (f : Frame). f .line .0) (st .top) in
       rw same (jumped-stands d (record { 0 = h .line .0 + 1 }))
@@ -88,7 +88,7 @@ module _ (h : Head) (callers : List Frame) (s : Position) (st : Stands h callers
 
   pub pushed-stands : 0 < h .depth → h .depth < 16 → getD callers (h .depth) origin ≡ callerOf h → (procedure : Proc)
       → Stands (pushedHead h procedure) callers (pushed (advanced s) procedure)
-  unfolding pushedHead pushed top frameOf advancedHead callerOf
+  unfolding pushedHead pushed top topOf advancedHead callerOf
   pushed-stands a d e procedure =
       let u = advanced-stands (omega (arith, d)) in
       let f : Frame = record { procedure = procedure; line = record { 0 = 0 } } in
@@ -115,7 +115,7 @@ module _ (h : Head) (callers : List Frame) (s : Position) (st : Stands h callers
 
   pub popped-stands : 1 < h .depth → h .depth ≤ 16 → (below : Frame) → below ≡ getD callers (h .depth - 1) origin
       → Stands (poppedHead h below) callers (popped s)
-  unfolding poppedHead popped top frameOf
+  unfolding poppedHead popped top topOf
   popped-stands a d below e =
       record {
         facts = st .facts;
@@ -132,12 +132,12 @@ module _ (h : Head) (callers : List Frame) (s : Position) (st : Stands h callers
       }
 
   pub facts-stand : (facts : ℕ) → Stands (headWith h facts) callers (withFacts s facts)
-  unfolding headWith withFacts top frameOf
+  unfolding headWith withFacts top topOf
   facts-stand facts =
       record { facts = refl; steps = st .steps; case = st .case; depth = st .depth; top = st .top; below = st .below; size = st .size }
 
   pub next-stands : (start : ℕ) → Stands (nextHead h start) callers (nextCase s start)
-  unfolding nextHead nextCase top frameOf origin
+  unfolding nextHead nextCase top topOf origin
   next-stands start =
       record {
         facts = refl;
@@ -150,7 +150,7 @@ module _ (h : Head) (callers : List Frame) (s : Position) (st : Stands h callers
       }
 
   pub finished-stands : Stands (finishedHead h) callers (finished s)
-  unfolding finishedHead finished top frameOf origin
+  unfolding finishedHead finished top topOf origin
   finished-stands =
       record {
         facts = st .facts;
@@ -163,7 +163,7 @@ module _ (h : Head) (callers : List Frame) (s : Position) (st : Stands h callers
       }
 
   pub counted-stands : Stands (countedHead h) callers (counted s)
-  unfolding countedHead counted top frameOf
+  unfolding countedHead counted top topOf
   counted-stands =
       record {
         facts = st .facts;

@@ -1,14 +1,13 @@
 -- One step in two parts: what the answer to the questions leads to is what `perform` comes to.
 -- Assumes nothing.
 use Prim.Native.Nat.{ℕ, _<_}
-use mathlib.Core.Path.{_≡_, refl, sym}
+use mathlib.Core.Path.{_≡_, sym}
 use mathlib.Core.List.{List}
 use native.Mathlib.Omega.{arith}
 use Rattle.records.specs.Loop.{stop, go}
 use Rattle.task.specs.declared.index.Index.{Index}
 use Rattle.task.specs.declared.instruction.Instruction.{Instruction}
 use Rattle.task.specs.declared.instruction.Instruction.the-variants.{Call}
-use Rattle.task.specs.declared.instruction.Proc.{Proc}
 use Rattle.step.specs.Moved.{movedBy, performedAs}
 use Rattle.step.specs.Perform.{perform}
 use Rattle.step.specs.Position.{counted}
@@ -16,7 +15,7 @@ use Rattle.step.specs.Ready.{Room}
 use Rattle.step.specs.declared.perform.Asked.{Asked}
 use Rattle.step.specs.declared.perform.Asked.the-variants.{No, Facts}
 use Rattle.step.specs.declared.position.Position.{Position}
-use Rattle.step.proofs.Laws.Perform.{Move, Moved, performed, steps-grow, calls}
+use Rattle.step.proofs.Laws.Perform.{Move, performed, steps-grow, calls}
 
 module _ (bytes : List ℕ) (i : Index) (offsets : List ℕ) (s : Position) (w : Instruction) (r : Asked)
     (e : performedAs bytes i s w r ≡ perform bytes i offsets s w) where

@@ -18,7 +18,7 @@ use Rattle.task.specs.declared.instruction.Decoded.the-variants.{Is}
 use Rattle.task.proofs.Laws.Passed.{Passed}
 use Rattle.task.proofs.Laws.Instruction.{Allowed, allows, decode-allowed}
 use Rattle.step.specs.Position.{top}
-use Rattle.step.specs.Ready.{Bounded, Held, Framed, Movable, Open, Ready, Known}
+use Rattle.step.specs.Ready.{Held, Framed, Movable, Open, Ready, Known}
 use Rattle.step.specs.declared.position.Frame.{Frame}
 use Rattle.step.specs.declared.position.Position.{Position}
 use Rattle.step.proofs.Laws.Possible.{parts, depth-open}

@@ -12,7 +12,7 @@ use lib.Dec.{eqb, leb}
 use lib.Pow.{pow-pos, pow-mono, ones-split, ones-lt, high}
 use borrow.Author.Tests.{lt-ltb, le-ltb, le-leb, lt-leb}
 use Rattle.task.proofs.Laws.First.{found-all}
-use Rattle.task.specs.Facts.{literalsAt, within, consistent, pairConsistent, pairsBeforeFault}
+use Rattle.task.specs.Facts.{literalsAt, within, Greatest, consistent, pairConsistent, pairsBeforeFault}
 use Rattle.task.specs.declared.facts.Literals.{Literals}
 
 -- a set has facts below `facts` alone exactly when it is no greater than the greatest such set
@@ -59,7 +59,7 @@ within-both facts a b =
     ]
 
 -- question 6 on one pair, by the greatest set
-pub pair-below : (facts most : ℕ) (l : Literals) → ((set : ℕ) → set < 2 ^ 64 → leb set most ≡ within facts set)
+pub pair-below : (facts most : ℕ) (l : Literals) → Greatest facts most
     → l .positive < 2 ^ 64 → l .negative < 2 ^ 64
     → (leb (bitOr (l .positive) (l .negative)) most && eqb (bitAnd (l .positive) (l .negative)) 0) ≡ consistent facts l
 unfolding consistent

@@ -8,7 +8,6 @@ use mathlib.Core.Bool.{Bool, true, false, false≢true, cond}
 use lib.Dec.{eqb, ltb}
 use borrow.Author.Tests.{lt-ltb, le-ltb, ltb-false, eq-eqb, ne-eqb, eqb-true}
 use mathlib.Core.Path.{_≡_, refl, sym, ap, _∙_}
-use native.Mathlib.Decide.{ℕ-discrete}
 use native.Mathlib.Nat.{mod-lt, mod-add-mod, mod-eq-of-lt, mod-self, div-add-mod', mul-le-mul-right, mul-add-mod-self-right}
 use native.Mathlib.Omega.{arith}
 use Rattle.records.specs.Numbers.{byteAt}

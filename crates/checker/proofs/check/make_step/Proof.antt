@@ -22,7 +22,7 @@ unfolding Passes
 returns c =
     let at-ask = c .before .before .before in (
       λ program callers s st.
-          step-refused _ _ _ _ _ s program _ _ (at-ask .ask .ensures s (st .facts) (st .case) (st .depth)) _ (c .before .asked .given .1),
+          step-refused _ _ _ _ _ s program _ _ (at-ask .ask .ensures .0 s (st .facts) (st .case) (st .depth)) _ (c .before .asked .given .1),
       tt,
     )
 
@@ -31,8 +31,8 @@ unfolding Passes
 returns-2 c =
     let at-ask = c .before .before .before in
     let known = c .before .asked2 .given .1 in (
-      λ program callers s st. step-made _ _ _ _ _ s program _ _ (at-ask .ask .ensures s (st .facts) (st .case) (st .depth)) _ known,
-      (at-ask .before .before .pre .1, made-room _ _ _ _ _ _ _ _ (at-ask .ask .ensures) _ known),
+      λ program callers s st. step-made _ _ _ _ _ s program _ _ (at-ask .ask .ensures .0 s (st .facts) (st .case) (st .depth)) _ known,
+      (at-ask .before .before .pre .1, made-room _ _ _ _ _ _ _ _ (at-ask .ask .ensures .0) _ known),
     )
 
 pub make-step-spec : {M : Type 1} → statement M

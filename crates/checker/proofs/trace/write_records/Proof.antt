@@ -91,7 +91,7 @@ returns c =
     let at-loop = at-loop-test .before in
     let at-start = at-loop .before .before .before .before in
     let done : at-loop .loop .k ≡ at-start .args .steps = omega (arith, at-loop-test .loop-test .left, at-loop .loop .inv .0) in
-    put-closing _ _ _ _ _ _ _ _ (rw done at (at-loop .loop .inv .2)) (at-put .put .ensures)
+    (put-closing _ _ _ _ _ _ _ _ (rw done at (at-loop .loop .inv .2)) (at-put .put .ensures), rw done at (at-loop .loop .inv .1))
 
 pub write-records-spec : {M : Type 1} → statement M
 write-records-spec =

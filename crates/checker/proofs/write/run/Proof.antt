@@ -77,13 +77,13 @@ returns-2 c =
     let at-loop = at-if1 .before .before .before in
     let at-start = at-loop .before .before .before .before .before in
     runs-stop _ _ _ _ (at-start .pre .0) _ _ _ (at-loop .loop .inv) (at-if1 .if1 .taken) (at-if2 .if2 .left) _ (at-top .top .ensures) _
-    (at-line-instruction .line-instruction .ensures) _ (at-ask .ask .ensures) _ (at-asked .asked .given .1)
+    (at-line-instruction .line-instruction .ensures) _ (at-ask .ask .ensures .0) _ (at-asked .asked .given .1)
 
 enum-known-asked-2 : tie.Need-enum-known-asked-2 Inv-loop μ-loop
 enum-known-asked-2 c = search needs
 
-number-of-requires : tie.Need-number-of-requires Inv-loop μ-loop
-number-of-requires c κs =
+byte-of-requires : tie.Need-byte-of-requires Inv-loop μ-loop
+byte-of-requires c κs =
     let at-top = c .before .before .before .before .before in
     let at-if2 = at-top .before in
     let at-if1 = at-if2 .before .before .before .before in
@@ -92,7 +92,10 @@ number-of-requires c κs =
     runs-small _ _ _ _ (at-start .pre .0) _ _ _ (at-loop .loop .inv) (at-if1 .if1 .taken) (at-if2 .if2 .left) _ (at-top .top .ensures)
 
 element-write-trace : tie.Need-element-write-trace Inv-loop μ-loop
-element-write-trace c = search needs
+element-write-trace c =
+    let at-if2 = c .before .before .before .before .before .before .before in
+    let at-loop = at-if2 .before .before .before .before .before .before .before in
+    omega (arith, at-if2 .if2 .left, at-loop .loop .inv .most)
 
 cast-depth : tie.Need-cast-depth Inv-loop μ-loop
 cast-depth c = search needs
@@ -156,8 +159,8 @@ loop-again c =
     let at-moved = c .before in
     let at-below = at-moved .before in
     let at-caller = at-below .before in
-    let at-number-of = at-caller .before .before in
-    let at-asked2 = at-number-of .before .before in
+    let at-byte-of = at-caller .before .before in
+    let at-asked2 = at-byte-of .before .before in
     let at-ask = at-asked2 .before .before in
     let at-line-instruction = at-ask .before in
     let at-top = at-line-instruction .before in
@@ -166,7 +169,7 @@ loop-again c =
     let at-loop = at-if1 .before .before .before in
     let at-start = at-loop .before .before .before .before .before in
     runs-on _ _ _ _ (at-start .pre .0) _ _ _ (at-loop .loop .inv) (at-if1 .if1 .taken) (at-if2 .if2 .left) _ (at-top .top .ensures) _
-    (at-line-instruction .line-instruction .ensures) _ (at-ask .ask .ensures) _ (at-asked2 .asked2 .given .1) _ (at-number-of .number-of .ensures) _
+    (at-line-instruction .line-instruction .ensures) _ (at-ask .ask .ensures .0) _ (at-asked2 .asked2 .given .1) _ (at-byte-of .byte-of .ensures) _
     (at-caller .caller .ensures) _ refl _ (at-moved .moved .ensures) _ (c .counted .ensures)
 
 cast-t32 : tie.Need-cast-t32 Inv-loop μ-loop
@@ -196,7 +199,7 @@ run-spec =
     enum-known-asked
     returns-2
     enum-known-asked-2
-    number-of-requires
+    byte-of-requires
     element-write-trace
     cast-depth
     caller-requires

@@ -124,7 +124,7 @@ returns-5 c =
     let at-read-task = at-enum-told .before .before in
     plan-written _ _ _ _ (at-read-task .read-task .ensures) _ (at-enum-told .enum-told .given .1) _ (at-check-program .check-program .ensures) _
     (at-enum-told3 .enum-told3 .given .1) _ _ (at-run .run .ensures .0 _) _ (at-ran .ran .given .1) (omega (arith, at-if1 .if1 .left)) _
-    (at-write-records .write-records .ensures)
+    (at-write-records .write-records .ensures .0)
 
 pub write-plan-spec : {M : Type 1} → statement M
 write-plan-spec =

@@ -2,7 +2,7 @@
 -- Assumes nothing.
 use mathlib.Core.Path.{refl, _∙_}
 use native.Mathlib.Omega.{arith}
-use Rattle.step.specs.Moved.{performedAs}
+use Rattle.step.specs.Moved.{Keeps, performedAs}
 use Rattle.step.proofs.Laws.Answers.{performs-none, performs-act, performs-goto, performs-call, performs-end}
 use borrow.Author.Needs.{needs}
 use Rattle.step.proofs.perform.ask.Statement.{statement}
@@ -46,26 +46,27 @@ end-requires : tie.Need-end-requires
 end-requires c κs = let pre = c .before .before .before .pre in omega (arith, pre .0 .case, pre .1)
 
 returns : tie.Need-returns
-unfolding performedAs
-returns c s x y z = performs-none _ _ _ s _ (c .enum-told .given .1)
+unfolding performedAs Keeps
+returns c = (λ s x y z. performs-none _ _ _ s _ (c .enum-told .given .1), λ other. tt)
 
 returns-2 : tie.Need-returns-2
-returns-2 c s x y z =
+returns-2 c =
     let e = c .before .before .before .w .given .1 in
-    rw e (c .act .ensures _ s _ x) ∙ performs-act _ _ _ _ _ _ e
+    (λ s x y z. rw e (c .act .ensures _ s _ x) ∙ performs-act _ _ _ _ _ _ e, λ other. absurd (other _ e))
 
 returns-3 : tie.Need-returns-3
-returns-3 c s x y z = performs-goto _ _ _ _ _ _ _ _ (c .enum-told2 .given .1)
+unfolding Keeps
+returns-3 c = (λ s x y z. performs-goto _ _ _ _ _ _ _ _ (c .enum-told2 .given .1), λ other. refl)
 
 returns-4 : tie.Need-returns-4
-returns-4 c s x y z =
+returns-4 c =
     let e = c .before .enum-told3 .given .1 in
-    rw e (c .call .ensures _ _ s _ z) ∙ performs-call _ _ _ _ _ _ e
+    (λ s x y z. rw e (c .call .ensures .0 _ _ s _ z) ∙ performs-call _ _ _ _ _ _ e, λ other. c .call .ensures .1)
 
 returns-5 : tie.Need-returns-5
-returns-5 c s x y z =
+returns-5 c =
     let e = c .before .enum-told4 .given .1 in
-    rw e (c .end .ensures s x y z) ∙ performs-end _ _ _ _ _ e
+    (λ s x y z. rw e (c .end .ensures .0 s x y z) ∙ performs-end _ _ _ _ _ e, λ other. c .end .ensures .1)
 
 pub ask-spec : {M : Type 1} → statement M
 ask-spec =

@@ -1,6 +1,5 @@
 -- `step::perform::ended` meets its contract: the depth decides between a pop and the end of the case.
 -- Assumes nothing.
-use native.Mathlib.Omega.{arith}
 use Rattle.step.proofs.Laws.Answers.{frames-many, frames-one}
 use borrow.Author.Needs.{needs}
 use Rattle.step.proofs.perform.ended.Statement.{statement}

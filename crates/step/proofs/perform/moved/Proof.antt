@@ -3,8 +3,7 @@
 use mathlib.Core.Path.{refl}
 use native.Mathlib.Omega.{arith}
 use Rattle.step.specs.Moved.{movedBy}
-use Rattle.step.specs.Position.{advanced, jumped, pushed, withFacts}
-use Rattle.step.specs.declared.position.Position.{Position}
+use Rattle.step.specs.Position.{advanced, jumped, pushed}
 use Rattle.step.proofs.Laws.Ready.{open-case, ready-framed, ready-act, ready-goto, ready-call}
 use borrow.Author.Needs.{needs}
 use Rattle.step.proofs.perform.moved.Statement.{statement}

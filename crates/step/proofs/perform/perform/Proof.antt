@@ -28,7 +28,7 @@ moved-requires c κs =
     let at-ask = c .before .before .before in
     let at-start = at-ask .before .before in
     let pre = at-start .pre in
-    (pre .0, asked-room _ _ _ _ _ _ (at-ask .ask .ensures (at-start .args .position) refl refl refl) _ (c .before .asked2 .given .1), pre .1 .case)
+    (pre .0, asked-room _ _ _ _ _ _ (at-ask .ask .ensures .0 (at-start .args .position) refl refl refl) _ (c .before .asked2 .given .1), pre .1 .case)
 
 counted-requires : tie.Need-counted-requires
 counted-requires c κs =
@@ -36,14 +36,14 @@ counted-requires c κs =
     let at-ask = at-asked .before .before .before in
     let at-start = at-ask .before .before in
     let pre = at-start .pre in
-    let same = moved-steps _ _ _ _ _ _ (at-ask .ask .ensures (at-start .args .position) refl refl refl) _ (at-asked .before .asked2 .given .1) in
+    let same = moved-steps _ _ _ _ _ _ (at-ask .ask .ensures .0 (at-start .args .position) refl refl refl) _ (at-asked .before .asked2 .given .1) in
     rw (c .moved .ensures) (omega (arith, same, ready-framed _ _ _ (pre .0) .steps))
 
 returns : tie.Need-returns
 returns c =
     let at-asked = c .before in
     c .refused .ensures
-    ∙ ap (answered _) (asked-no _ _ _ _ _ _ (at-asked .before .before .before .ask .ensures _ refl refl refl) _ (at-asked .before .asked .given .1))
+    ∙ ap (answered _) (asked-no _ _ _ _ _ _ (at-asked .before .before .before .ask .ensures .0 _ refl refl refl) _ (at-asked .before .asked .given .1))
 
 returns-2 : tie.Need-returns-2
 unfolding answered
@@ -51,7 +51,7 @@ returns-2 c =
     let at-moved = c .before in
     let at-asked = at-moved .before in
     rw (c .counted .ensures, at-moved .moved .ensures)
-    (ap (answered _) (asked-moves _ _ _ _ _ _ (at-asked .before .before .before .ask .ensures _ refl refl refl) _ (at-asked .before .asked2 .given .1)))
+    (ap (answered _) (asked-moves _ _ _ _ _ _ (at-asked .before .before .before .ask .ensures .0 _ refl refl refl) _ (at-asked .before .asked2 .given .1)))
 
 pub perform-spec : {M : Type 1} → statement M
 perform-spec =

@@ -23,8 +23,8 @@ use denote.RattleType.{owns}
 use denote.Laws.{Is}
 use denote.Plain.{uint-makes}
 use denote.Builtin.{u8, usize}
-use denote.Ref.{RefT, NamedLft}
-use denote.Signature.{plain, shrSliceOf, namedLft}
+use denote.Ref.{RefT}
+use denote.Signature.{plain, shrSliceOf}
 use denote.Slice.{ShrSlice, slice-vals, shr-slice-tells, shr-slice-lawful}
 use denote.Steps.{nothing, owned}
 use denote.Struct.Rest.{own-shut}

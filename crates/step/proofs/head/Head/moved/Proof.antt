@@ -1,8 +1,7 @@
 -- `step::head::Head::moved` meets its contract: instruction by instruction.
 -- Assumes nothing.
 use mathlib.Core.Path.{refl}
-use Rattle.step.specs.Head.{headWith, movedHead}
-use Rattle.step.specs.declared.head.Head.{Head}
+use Rattle.step.specs.Head.{movedHead}
 use borrow.Author.Needs.{needs}
 use Rattle.step.proofs.head.Head.moved.Statement.{statement}
 use Rattle.step.proofs.head.Head.moved.Tie as tie

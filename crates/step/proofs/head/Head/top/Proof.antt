@@ -1,5 +1,5 @@
 use mathlib.Core.Path.{refl}
-use Rattle.step.specs.Head.{frameOf}
+use Rattle.step.specs.Head.{topOf}
 use Rattle.step.proofs.head.Head.top.Statement.{statement}
 use Rattle.step.proofs.head.Head.top.Tie as tie
 use Rattle.step.proofs.head.Head.top.Reads as reads
@@ -7,7 +7,7 @@ use Rattle.step.proofs.head.Head.top.Lts as lts
 
 -- src/head.rt:40:5
 returns : tie.Need-returns
-unfolding frameOf
+unfolding topOf
 returns c = refl
 
 pub top-spec : {M : Type 1} → statement M
