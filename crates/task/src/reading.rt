@@ -13,7 +13,6 @@ use crate::instruction::Decoded;
 use crate::instruction::Line;
 use crate::instruction::Proc;
 use crate::instruction::decode_for;
-use crate::instruction::encode;
 use crate::instruction::put_triple;
 use crate::instruction::three_at;
 use crate::program::line_offset;
@@ -177,14 +176,14 @@ fn read_preset(
     let line = task[body + 1];
     let triple = three_at(task, body + 2);
     let decoded = decode_for(bounds, index.actions, Proc(procedure), Line(line), triple);
-    let Decoded::Is(w) = decoded else {
+    let Decoded::Is(_) = decoded else {
         return Outcome::Refused(PRESET, at);
     };
     let offset = line_offset(bounds, Proc(procedure), Line(line));
     if byte_at(presets, offset) != 0 {
         return Outcome::Refused(REPEATED, at);
     }
-    put_triple(presets, offset, encode(w));
+    put_triple(presets, offset, triple);
     Outcome::Next(Progress {
         at: next,
         section: Section::Presets,
