@@ -12,7 +12,7 @@ ghost use Prim.Native.Nat.{_+_, _*_, _≤_, _<_};
 ghost use lib.ListN.{length};
 ghost use Rattle.step.specs.Head.{startingHead, topOf, callerOf, jumpedHead, advancedHead, pushedHead, poppedHead, headWith, nextHead, finishedHead, countedHead, gotoHead, endedHead, movedHead, Fits};
 
-// A position without the frames below its top one. The facts stand last, so that the compiler keeps each field in a register of its own.
+// A position without the frames below its top one. The facts stand last, so that the compiler keeps each field as a value of its own.
 pub struct Head {
     pub steps: u16,
     pub case: u8,
