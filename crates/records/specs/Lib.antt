@@ -1,4 +1,3 @@
 pub mod Numbers
 pub mod Record
-pub mod Reader
 pub mod Loop

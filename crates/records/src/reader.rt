@@ -1,28 +1,27 @@
-// The plan's reader: the plan, and the offset of the record that is read next; `record_at` does the work. A caller with a plain slice and an
-// offset uses `plan_record`.
+// The plan's reader: the plan, and the offset of the record that is read next; `record_at` does the work. It is the crate's own: a caller has a
+// plain slice and an offset, and uses `plan_record`.
 use crate::record::Found;
 use crate::record::record_at;
 ghost use mathlib.Core.Path.{_≡_};
-ghost use Rattle.records.specs.Reader.{starting, moved, nextOf};
 ghost use Rattle.records.specs.Record.{recordAt};
 
 // A plan, and an offset in it.
-pub struct Reader<'a> {
-    pub plan: &'a [u8],
-    pub at: usize,
+pub(crate) struct Reader<'a> {
+    plan: &'a [u8],
+    at: usize,
 }
 
 impl<'a> Reader<'a> {
     // A reader at the plan's first byte.
-    pub fn new(plan: &'a [u8]) -> Reader<'a>
-        ensures { λ r. ⌜ r ≡ starting (plan .entry) ⌝ }
+    fn new(plan: &'a [u8]) -> Reader<'a>
+        ensures { λ r. ⌜ r ≡ record { plan = plan .entry; at = 0 } ⌝ }
     {
         Reader { plan, at: 0 }
     }
 
     // The reader at another offset of its plan: where the last record ended.
-    pub fn moved(self, at: usize) -> Reader<'a>
-        ensures { λ r. ⌜ r ≡ moved (self .entry) at ⌝ }
+    fn moved(self, at: usize) -> Reader<'a>
+        ensures { λ r. ⌜ r ≡ record { plan = self .entry .plan; at = at } ⌝ }
     {
         Reader {
             plan: self.plan,
@@ -31,8 +30,8 @@ impl<'a> Reader<'a> {
     }
 
     // The record at the reader's offset, or that it is not all there.
-    pub fn next(self) -> Found
-        ensures { λ r. ⌜ r ≡ nextOf (self .entry) ⌝ }
+    fn next(self) -> Found
+        ensures { λ r. ⌜ r ≡ recordAt (now (self .entry .plan)) (self .entry .at) ⌝ }
     {
         record_at(self.plan, self.at)
     }

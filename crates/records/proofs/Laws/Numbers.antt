@@ -1,10 +1,10 @@
 -- What a byte or a number at an offset is, by whether its bytes are all there: one law for every width.
 -- Assumes nothing.
-use Prim.Native.Nat.{ℕ, _+_, _≤_, _<_}
+use Prim.Native.Nat.{ℕ, _+_, _≤_}
 use mathlib.Core.Path.{_≡_, sym, _∙_}
 use mathlib.Core.List.{List}
 use lib.ListN.{length, List·getD-eq-default}
-use borrow.Author.Tests.{le-leb, lt-leb}
+use borrow.Author.Tests.{le-leb}
 use Rattle.records.specs.Numbers.{byteAt, twoAt, eightAt, ifThere, u16At, u64At}
 
 pub byte-missing : (bytes : List ℕ) (at : ℕ) → length bytes ≤ at → 0 ≡ byteAt bytes at
@@ -14,10 +14,6 @@ module _ (width : ℕ) (bytes : List ℕ) (at value : ℕ) where
   pub there : at + width ≤ length bytes → value ≡ ifThere width bytes at value
   unfolding ifThere
   there h = simp (le-leb _ _ h)
-
-  pub missing : length bytes < at + width → 0 ≡ ifThere width bytes at value
-  unfolding ifThere
-  missing h = simp (lt-leb _ _ h)
 
 -- a number read where its bytes are all there
 pub u16-there : (bytes : List ℕ) (at value : ℕ) → value ≡ twoAt bytes at → at + 2 ≤ length bytes → value ≡ u16At bytes at

@@ -1,5 +1,5 @@
 -- `records::reader::plan_record` meets its contract: a walk of its MIR, by hand. A reader is made, moved on to the offset and asked, each by a call; it is held in a local between them.
--- All that the proof knows of the three functions is that each meets its contract; that the record read is then the plan's at the offset is the law `reads-record`.
+-- All that the proof knows of the three functions is that each meets its contract.
 -- Assumes nothing.
 use mathlib.Core.Path.{_≡_, refl, ap, _∙_}
 use Prim.Native.Nat.{ℕ, _<_, _^_}
@@ -35,10 +35,9 @@ use denote.Triple.Table.{entered, cited}
 use denote.Triple.Walked.{says, Stays, stay-dropped, walkOf, goes-dropped, ends-at}
 use denote.Exit.{yes}
 use Rattle.records.specs.Record.{recordAt}
-use Rattle.records.specs.Reader as Specs
 use Rattle.records.specs.declared.reader.Reader.{Reader}
 use Rattle.records.specs.declared.record.Found.{Found}
-use Rattle.records.proofs.Laws.Reader.{reads-record, rowAt as B}
+use Rattle.records.proofs.Laws.Reader.{rowAt as B}
 use Rattle.records.proofs.Laws.Walk.{slice-value, walk-contract, calls-for}
 use Rattle.records.proofs.reader.Reader as T
 use Rattle.records.proofs.reader.Reader.Laws as T′
@@ -134,20 +133,20 @@ module _ {M : Type 1} (𝓤 : URA M) (H : Heap 𝓤) (A : Atoms 𝓤) (W : Given
         pass1 ! (init ! 6 refl (shr-slice-lawful 𝓤 H A W (named 0) κ u8 .typed s (v ∷ []) p .0)) $ pass1 ! (init ! 4 refl (tt, record { fits = fits })) $ pass0 ! $
         -- [room for _4; …; room for _3; …; _2; …; _1; …; room for _0; …; what is had at entry]
         move ! (10 ∷ []) $ use1 W (raw (New 𝓤 H A mem run .pre to-new)) goes-new $
-        calls-for ! fm new.ended (new.clauses 𝓤 H A mem run) known-new to-new (λ r _. r ≡ Specs.starting s) (λ r ws. id⊢ 𝓤 _) (and-then ! (load ! (from ! (stop !)) (look ! 7 refl)) (no-more !)) (λ u r ws started is.
+        calls-for ! fm new.ended (new.clauses 𝓤 H A mem run) known-new to-new (λ r _. r ≡ record { plan = s; at = 0 }) (λ r ws. id⊢ 𝓤 _) (and-then ! (load ! (from ! (stop !)) (look ! 7 refl)) (no-more !)) (λ u r ws started is.
         -- [what r owns; the token; nothing of last values; room for _4; …]
         land ! (from ! (stop !)) (init ! 3 refl (LL.lawful (T.the-type αᵉ) (T′.the-laws αᵉ) 𝓤 H A W .typed r _ is .0)) $
         use2 W (raw (Moved 𝓤 H A mem run .pre (to-moved r u))) (goes-moved r u) $
-        calls-for ! fm moved.ended (moved.clauses 𝓤 H A mem run) known-moved (to-moved r u) (λ m _. m ≡ Specs.moved r n) (λ m ws. id⊢ 𝓤 _) (and-then ! (load ! (from ! (stop !)) (look ! 2 refl)) (and-then ! (load ! (from ! (stop !)) (look ! 6 refl)) (no-more !))) (λ u′ m ws′ went is′.
+        calls-for ! fm moved.ended (moved.clauses 𝓤 H A mem run) known-moved (to-moved r u) (λ m _. m ≡ record { plan = r .plan; at = n }) (λ m ws. id⊢ 𝓤 _) (and-then ! (load ! (from ! (stop !)) (look ! 2 refl)) (and-then ! (load ! (from ! (stop !)) (look ! 6 refl)) (no-more !))) (λ u′ m ws′ went is′.
         -- [what m owns; the token; nothing of last values, twice; _4; …; room for _3; …]
         land ! (from ! (stop !)) (init ! 6 refl (LL.lawful (T.the-type αᵉ) (T′.the-laws αᵉ) 𝓤 H A W .typed m _ is′ .0)) $
         use2 W (raw (Next 𝓤 H A mem run .pre (to-next m u′))) (goes-next m u′) $
-        calls-for ! fm next.ended (next.clauses 𝓤 H A mem run) known-next (to-next m u′) (λ t _. t ≡ Specs.nextOf m) (λ t ws. id⊢ 𝓤 _) (and-then ! (load ! (from ! (stop !)) (look ! 5 refl)) (no-more !)) (λ u″ t ws″ found is″.
+        calls-for ! fm next.ended (next.clauses 𝓤 H A mem run) known-next (to-next m u′) (λ t _. t ≡ recordAt (now (m .plan)) (m .at)) (λ t ws. id⊢ 𝓤 _) (and-then ! (load ! (from ! (stop !)) (look ! 5 refl)) (no-more !)) (λ u″ t ws″ found is″.
         -- [the result; the token; nothing of last values, three times; _4; …; _3; …; _2; …; _1; …; room for _0; …]
         land ! (from ! (stop !)) (init ! 13 refl (EL.lawful S.the-type S′.the-laws 𝓤 H A W tt .typed t _ is″ .0)) $
         returns ! (look ! 13 refl) $ forget ! 5 refl $ forget ! 7 refl $ forget ! 9 refl $ forget ! 11 refl $ forget ! 13 refl $
         move ! (13 ∷ 14 ∷ []) $ free1 ! $ move ! (11 ∷ 12 ∷ []) $ free1 ! $ move ! (9 ∷ 10 ∷ []) $ free1 ! $ move ! (7 ∷ 8 ∷ []) $ free1 ! $ move ! (5 ∷ 6 ∷ []) $ free1 ! $ free0 ! $
-        keep ! (0 ∷ 1 ∷ []) $ by ! (exits t u″ (found ∙ (ap Specs.nextOf (went ∙ ap (λ (x : Reader). Specs.moved x n) started) ∙ reads-record s n)))))))))))
+        keep ! (0 ∷ 1 ∷ []) $ by ! (exits t u″ (found ∙ (ap (λ (x : Reader). recordAt (now (x .plan)) (x .at)) went ∙ ap (λ (x : Reader). recordAt (now (x .plan)) n) started)))))))))))
 
 read-meets : {M : Type 1} (𝓤 : URA M) (H : Heap 𝓤) (A : Atoms 𝓤) (W : Given 𝓤 H A) (mem : Memory → SProp 𝓤) (run : Routine → Fun 𝓤) (𝓣 : Tables 𝓤 H)
     → Triple 𝓤 (𝓣 .C #new) (New 𝓤 H A mem run) → Triple 𝓤 (𝓣 .C #moved) (Moved 𝓤 H A mem run) → Triple 𝓤 (𝓣 .C #next) (Next 𝓤 H A mem run)

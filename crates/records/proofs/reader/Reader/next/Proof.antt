@@ -34,7 +34,6 @@ use denote.Triple.Table.{entered, cited}
 use denote.Triple.Walked.{says, Stays, stay-dropped, walkOf, goes-dropped, ends-at}
 use denote.Exit.{yes}
 use Rattle.records.specs.Record.{recordAt}
-use Rattle.records.specs.Reader.{nextOf}
 use Rattle.records.specs.declared.reader.Reader.{Reader}
 use Rattle.records.specs.declared.record.Found.{Found}
 use Rattle.records.proofs.Laws.Reader.{typeAt as D, lawsAt as L, rowAt as B}
@@ -92,7 +91,6 @@ module _ {M : Type 1} (𝓤 : URA M) (H : Heap 𝓤) (A : Atoms 𝓤) (W : Given
       use1 W (given (mach ∷ [] ≡ mach ∷ []) (‵ (all-own (D (κ, tt) .parts) (L (κ, tt)) vd))) (own-open 𝓤 H A W (D (κ, tt)) (L (κ, tt)) vd mach) $ learn ! (λ _. move ! (1 ∷ 0 ∷ []) $ join ! $ frame ! $ done !)
 
   exits : (r : Found) (u : Val) → r ≡ found → ent 𝓤 (⋆ 𝓤 H A (‵ (S.the-row .own r (u ∷ [])) ∷ raw (alive 𝓤 H A next.signature (κ, tt) (q, tt)) ∷ [])) (Post u)
-  unfolding nextOf
   exits r u e =
       qed W (‵ (S.the-row .own r (u ∷ [])) ∷ raw (alive 𝓤 H A next.signature (κ, tt) (q, tt)) ∷ []) ∵
       suffices ! _ (ends-at 𝓤 H A next.ended stayed (next.clauses 𝓤 H A mem run) W (((κ, tt), (q, tt), tt, (d, tt), (mach ∷ [], tt)), tt) u r (tt, tt) (tt, tt)) $ says ! e $
