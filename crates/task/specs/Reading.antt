@@ -21,10 +21,7 @@ use Rattle.task.specs.declared.instruction.Decoded.{Decoded}
 use Rattle.task.specs.declared.instruction.Decoded.the-variants.{Is, Nothing}
 use Rattle.task.specs.declared.instruction.Line.{Line}
 use Rattle.task.specs.declared.instruction.Proc.{Proc}
-use Rattle.task.specs.declared.reading.Progress.{Progress}
 use Rattle.task.specs.declared.reading.Reading.{Reading}
-use Rattle.task.specs.declared.reading.Section.{Section}
-use Rattle.task.specs.declared.reading.Section.the-variants.{Start, Header, Actions, Presets, Cases}
 use Rattle.task.specs.declared.verdict.Verdict.the-variants.{Accepted, Refused}
 
 -- the index of no task: all zeros
@@ -35,8 +32,13 @@ noIndex = record { bounds = record { facts = 0; procedures = 0; last = 0; stack 
 unfoldable pub noTask : Task
 noTask = record { index = noIndex; offsets = replicate 64 0; presets = replicate 768 0 }
 
--- where the reading stands: the next record's offset, the section that the last record belongs to and the index so far; the
--- actions' offsets so far, 64 places; the preset program so far, 768 bytes
+-- how far the reading is: the next record's offset, the kind of the record before it, 0 at the start, and the index so far
+pub record Progress : Type 0 where
+  pub at : ℕ
+  pub last : ℕ
+  pub index : Index
+
+-- where the reading stands: how far it is; the actions' offsets so far, 64 places; the preset program so far, 768 bytes
 pub record State : Type 0 where
   pub progress : Progress
   pub offsets : List ℕ
@@ -45,7 +47,7 @@ pub record State : Type 0 where
 -- it begins at the first byte with nothing known
 unfoldable pub begin : State
 begin =
-    record { progress = record { at = 0; section = Start; index = noIndex }; offsets = noTask .offsets; presets = noTask .presets }
+    record { progress = record { at = 0; last = 0; index = noIndex }; offsets = noTask .offsets; presets = noTask .presets }
 
 -- the answer to a task that is turned down
 unfoldable pub refused : ℕ → ℕ → Reading
@@ -55,18 +57,14 @@ refused question place = record { verdict = Refused question place; task = noTas
 unfoldable pub accepted : Task → Reading
 accepted task = record { verdict = Accepted 0; task = task }
 
--- question 2: kind 1 comes first, then 2; after a 2 comes 2, 3 or 4; after a 3, 3 or 4; after a 4, 4 or 5
-unfoldable pub mayStand : Section → ℕ → Bool
-mayStand Start kind = eqb kind 1
-mayStand Header kind = eqb kind 2
-mayStand Actions kind = between 2 kind 4
-mayStand Presets kind = between 3 kind 4
-mayStand Cases kind = between 4 kind 5
-
--- one of five, by kind: 1 header, 2 action, 3 preset, 4 case, and close for any other (question 2 lets only 5 come so far)
+-- one of five, by kind: 1 header, 2 action, 3 preset, 4 case, and another for any other kind
 unfoldable pub byKind : {A : Type 0} → ℕ → A → A → A → A → A → A
 byKind kind header action preset case close =
     cond (eqb kind 1) header (cond (eqb kind 2) action (cond (eqb kind 3) preset (cond (eqb kind 4) case close)))
+
+-- question 2, by the kind of the record before: first comes 1, after a 1 comes 2; after a 2, 2, 3 or 4; after a 3, 3 or 4; after a 4, 4 or 5
+unfoldable pub mayStand : ℕ → ℕ → Bool
+mayStand last kind = byKind last (eqb kind 2) (between 2 kind 4) (between 3 kind 4) (between 4 kind 5) (eqb kind 1)
 
 -- question 3: bounds have 6 bytes, an action 16 + 32 * e with e from 0 to 8, a preset 5, a case 24, the closing record none
 unfoldable pub lengthFits : ℕ → ℕ → Bool
@@ -86,7 +84,7 @@ module _ (bytes : List ℕ) (s : State) (body : ℕ) where
       ask (inRange (boundsAt bytes body)) (refused BOUNDS at)
       (go
       (record {
-        progress = record { at = next; section = Header; index = record { bounds = boundsAt bytes body; actions = 0; cases = 0; first = 0 } };
+        progress = record { at = next; last = 1; index = record { bounds = boundsAt bytes body; actions = 0; cases = 0; first = 0 } };
         offsets = s .offsets;
         presets = s .presets;
       }))
@@ -101,7 +99,7 @@ module _ (bytes : List ℕ) (s : State) (body : ℕ) where
         progress =
             record {
               at = next;
-              section = Actions;
+              last = 2;
               index = record { bounds = index .bounds; actions = index .actions + 1; cases = index .cases; first = index .first };
             };
         offsets = set (s .offsets) (index .actions) at;
@@ -122,7 +120,7 @@ module _ (bytes : List ℕ) (s : State) (body : ℕ) where
       ask (eqb (byteAt (s .presets) (lineOffset (index .bounds) presetProc presetLine)) 0) (refused REPEATED at)
       (go
       (record {
-        progress = record { at = next; section = Presets; index = index };
+        progress = record { at = next; last = 3; index = index };
         offsets = s .offsets;
         presets = withTriple (s .presets) (lineOffset (index .bounds) presetProc presetLine) (encode w);
       }))
@@ -143,7 +141,7 @@ module _ (bytes : List ℕ) (s : State) (body : ℕ) where
         progress =
             record {
               at = next;
-              section = Cases;
+              last = 4;
               index =
                   record {
                     bounds = index .bounds;
@@ -176,7 +174,7 @@ kindTurn bytes s kind body size next =
 unfoldable pub onRecord : List ℕ → State → Found → Turn State Reading
 onRecord bytes s Missing = stop (refused WHOLE (s .progress .at))
 onRecord bytes s (Record kind body size next) =
-    ask (mayStand (s .progress .section) kind) (refused KIND (s .progress .at))
+    ask (mayStand (s .progress .last) kind) (refused KIND (s .progress .at))
     (ask (lengthFits kind size) (refused LENGTH (s .progress .at)) (kindTurn bytes s kind body size next))
 
 -- one turn of the reading

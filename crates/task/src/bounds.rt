@@ -3,7 +3,7 @@ use records::numbers::two_at;
 ghost use mathlib.Core.Path.{_≡_};
 ghost use Prim.Native.Nat.{_+_, _≤_};
 ghost use lib.ListN.{length};
-ghost use Rattle.task.specs.Bounds.{between, inRange, boundsAt, lineCount};
+ghost use Rattle.task.specs.Bounds.{inRange, boundsAt, lineCount};
 
 // Facts F, procedures b, last line n, stack bound m and step bound S.
 pub struct Bounds {
@@ -28,22 +28,15 @@ pub(crate) fn bounds_at(bytes: &[u8], at: usize) -> Bounds
     }
 }
 
-// Whether a number is from low to high.
-fn between(low: u16, x: u16, high: u16) -> bool
-    ensures { λ r. ⌜ r ≡ between low x high ⌝ }
-{
-    (low <= x) & (x <= high)
-}
-
 // Question 5.
 pub(crate) fn in_range(b: Bounds) -> bool
     ensures { λ r. ⌜ r ≡ inRange b ⌝ }
 {
-    between(1, b.facts as u16, 64)
-        & between(1, b.procedures as u16, 8)
-        & between(1, b.last as u16, 31)
-        & between(1, b.stack as u16, 16)
-        & between(1, b.steps, 4096)
+    ((1 <= b.facts) & (b.facts <= 64))
+        & ((1 <= b.procedures) & (b.procedures <= 8))
+        & ((1 <= b.last) & (b.last <= 31))
+        & ((1 <= b.stack) & (b.stack <= 16))
+        & ((1 <= b.steps) & (b.steps <= 4096))
 }
 
 // How many lines a program has.

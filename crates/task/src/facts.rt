@@ -24,15 +24,10 @@ pub(crate) fn literals_at(bytes: &[u8], at: usize) -> Literals
 
 // The greatest set of facts below `facts`: a set has such facts alone exactly if it is no greater. Of `(1 << facts) - 1` the compiler would make
 // a shift of each set that is compared with it.
-fn most(facts: u8) -> u64
+pub(crate) fn most(facts: u8) -> u64
+    requires { ⌜ (1 ≤ facts) × (facts ≤ 64) ⌝ }
     ensures { λ r. ⌜ Greatest facts r ⌝ }
 {
-    if facts == 0 {
-        return 0;
-    }
-    if 64 <= facts {
-        return 0xffff_ffff_ffff_ffff;
-    }
     0xffff_ffff_ffff_ffff >> (64 - facts)
 }
 
@@ -40,26 +35,25 @@ fn most(facts: u8) -> u64
 pub fn within(facts: u8, set: u64) -> bool
     ensures { λ r. ⌜ r ≡ within facts set ⌝ }
 {
+    if facts == 0 {
+        return set == 0;
+    }
+    if 64 <= facts {
+        return true;
+    }
     set <= most(facts)
 }
 
 // Question 6 on one pair, given the greatest set: both sets are no greater exactly if their union is not.
-fn consistent_to(most: u64, literals: Literals) -> bool
+pub(crate) fn consistent_to(most: u64, literals: Literals) -> bool
     ensures { λ r. ⌜ ((facts : ℕ) → Greatest facts most → r ≡ consistent facts literals) ⌝ }
 {
     ((literals.positive | literals.negative) <= most) & (literals.positive & literals.negative == 0)
 }
 
-// Question 6 on one pair.
-pub(crate) fn consistent(facts: u8, literals: Literals) -> bool
-    ensures { λ r. ⌜ r ≡ consistent facts literals ⌝ }
-{
-    consistent_to(most(facts), literals)
-}
-
 // Of `count` pairs from `at` on, how many stand before the first that fails question 6.
 pub(crate) fn pairs_before_fault(bytes: &[u8], at: usize, count: usize, facts: u8) -> usize
-    requires { ⌜ at + 16 * count ≤ length (now bytes) ⌝ }
+    requires { ⌜ (at + 16 * count ≤ length (now bytes)) × (1 ≤ facts) × (facts ≤ 64) ⌝ }
     ensures { λ r. ⌜ r ≡ pairsBeforeFault facts (now (bytes .entry)) at count ⌝ }
 {
     let most = most(facts);

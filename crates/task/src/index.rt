@@ -61,10 +61,11 @@ pub fn effect_at(task: &[u8], at: usize, number: u16) -> Effect
     ensures { λ r. ⌜ r ≡ effectAt (now (task .entry)) at number ⌝ }
 {
     let from = 32 * (number as usize);
+    let changes = literals_at(task, at + (36 + from));
     Effect {
         condition: literals_at(task, at + (20 + from)),
-        raised: eight_at(task, at + (36 + from)),
-        lowered: eight_at(task, at + (44 + from)),
+        raised: changes.positive,
+        lowered: changes.negative,
     }
 }
 

@@ -2,14 +2,11 @@
 use crate::bounds::Bounds;
 use crate::bounds::line_count;
 use crate::index::Index;
-use crate::instruction::Decoded;
 use crate::instruction::Instruction;
 use crate::instruction::Line;
 use crate::instruction::Proc;
-use crate::instruction::Triple;
-use crate::instruction::decode;
+use crate::instruction::decodes;
 use crate::instruction::spelled;
-use crate::instruction::three_at;
 use crate::instruction::triple_at;
 use crate::questions::PROGRAM_LENGTH;
 use crate::questions::PROGRAM_LINES;
@@ -20,9 +17,8 @@ ghost use mathlib.Core.Path.{_≡_};
 ghost use Prim.Native.Nat.{_+_, _*_, _≤_};
 ghost use mathlib.Core.Bool.{true};
 ghost use lib.ListN.{length};
-ghost use Rattle.task.specs.Bounds.{lineCount};
 ghost use Rattle.task.specs.First.{firstNo};
-ghost use Rattle.task.specs.Program.{lineOffset, instructionOn, isInstruction, lineAllowed, sameTriple, presetHeld, programVerdict};
+ghost use Rattle.task.specs.Program.{lineOffset, instructionOn, isInstruction, lineAllowed, presetHeld, programVerdict};
 ghost use Rattle.task.specs.declared.instruction.Decoded.the-variants.{Is};
 
 // Where a line of a procedure begins in a program.
@@ -32,41 +28,13 @@ pub fn line_offset(b: Bounds, procedure: Proc, line: Line) -> usize
     3 * (procedure.0 as usize * (b.last as usize + 1) + line.0 as usize)
 }
 
-// The instruction on a line of a procedure, if the line's three bytes spell one that is allowed there.
-pub fn instruction_on(index: Index, program: &[u8], procedure: Proc, line: Line) -> Decoded
-    ensures { λ r. ⌜ r ≡ instructionOn index (now (program .entry)) procedure line ⌝ }
-{
-    let bounds = index.bounds;
-    let triple = triple_at(program, line_offset(bounds, procedure, line));
-    decode(bounds, index.actions, line, triple)
-}
-
 // The instruction on a line of a program that passes questions 25 and 26: its bytes are there, and spell one that is allowed.
 pub fn line_instruction(index: Index, program: &[u8], procedure: Proc, line: Line) -> Instruction
     requires { ⌜ (lineOffset (index .bounds) procedure line + 3 ≤ length (now program))
         × (isInstruction (instructionOn index (now program) procedure line) ≡ true) ⌝ }
     ensures { λ r. ⌜ instructionOn index (now (program .entry)) procedure line ≡ Is r ⌝ }
 {
-    let bounds = index.bounds;
-    let w = three_at(program, line_offset(bounds, procedure, line));
-    spelled(w)
-}
-
-// Whether three bytes decoded to an instruction.
-fn is_instruction(d: Decoded) -> bool
-    ensures { λ r. ⌜ r ≡ isInstruction d ⌝ }
-{
-    match d {
-        Decoded::Is(_) => true,
-        Decoded::Nothing => false,
-    }
-}
-
-// Whether two instructions of three bytes are the same.
-fn same_triple(v: Triple, w: Triple) -> bool
-    ensures { λ r. ⌜ r ≡ sameTriple v w ⌝ }
-{
-    (v.op == w.op) & (v.p == w.p) & (v.q == w.q)
+    spelled(triple_at(program, line_offset(index.bounds, procedure, line)))
 }
 
 // Question 27 on one line; most lines are not preset.
@@ -75,24 +43,29 @@ fn preset_held(presets: &[u8], program: &[u8], k: usize) -> bool
     ensures { λ r. ⌜ r ≡ presetHeld (now (presets .entry)) (now (program .entry)) k ⌝ }
 {
     let at = 3 * k;
-    if byte_at(presets, at) == 0 {
+    let op = byte_at(presets, at);
+    if op == 0 {
         return true;
     }
-    same_triple(triple_at(presets, at), three_at(program, at))
+    let w = triple_at(program, at);
+    (op == w.op) & (byte_at(presets, at + 1) == w.p) & (byte_at(presets, at + 2) == w.q)
 }
 
 // How many lines stand before the first that question 26 turns down.
-fn allowed_lines(index: Index, program: &[u8]) -> usize
-    requires { ⌜ 3 * lineCount (index .bounds) ≤ length (now program) ⌝ }
-    ensures { λ r. ⌜ r ≡ firstNo (lineAllowed index (now (program .entry))) (lineCount (index .bounds)) ⌝ }
+fn allowed_lines(index: Index, count: usize, program: &[u8]) -> usize
+    requires { ⌜ 3 * count ≤ length (now program) ⌝ }
+    ensures { λ r. ⌜ r ≡ firstNo (lineAllowed index (now (program .entry))) count ⌝ }
 {
-    let bounds = index.bounds;
-    let last = bounds.last;
-    let count = line_count(bounds) as usize;
+    let last = index.bounds.last;
     let mut k = 0;
     let mut line = 0;
     while k < count {
-        if is_instruction(decode(bounds, index.actions, Line(line), three_at(program, 3 * k))) {
+        if decodes(
+            index.bounds,
+            index.actions,
+            Line(line),
+            triple_at(program, 3 * k),
+        ) {
             k += 1;
             line = if line < last { line + 1 } else { 0 };
         } else {
@@ -122,15 +95,14 @@ fn held_presets(count: usize, presets: &[u8], program: &[u8]) -> usize
 pub fn check_program(index: Index, presets: &[u8], program: &[u8]) -> Verdict
     ensures { λ r. ⌜ r ≡ programVerdict index (now (presets .entry)) (now (program .entry)) ⌝ }
 {
-    let bounds = index.bounds;
-    let count = line_count(bounds) as usize;
+    let count = line_count(index.bounds) as usize;
     if program.len() != 3 * count {
         return Verdict::Refused {
             question: PROGRAM_LENGTH,
             place: 0,
         };
     }
-    let allowed = allowed_lines(index, program);
+    let allowed = allowed_lines(index, count, program);
     if allowed < count {
         return Verdict::Refused {
             question: PROGRAM_LINES,

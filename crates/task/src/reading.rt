@@ -3,18 +3,17 @@
 use crate::bounds::Bounds;
 use crate::bounds::bounds_at;
 use crate::bounds::in_range;
-use crate::facts::consistent;
+use crate::facts::consistent_to;
 use crate::facts::literals_at;
+use crate::facts::most;
 use crate::facts::pairs_before_fault;
-use crate::facts::within;
 use crate::index::Index;
 use crate::index::Task;
-use crate::instruction::Decoded;
 use crate::instruction::Line;
 use crate::instruction::Proc;
-use crate::instruction::decode_for;
+use crate::instruction::decodes_for;
 use crate::instruction::put_triple;
-use crate::instruction::three_at;
+use crate::instruction::triple_at;
 use crate::program::line_offset;
 use crate::questions::BOUNDS;
 use crate::questions::CLOSED;
@@ -26,40 +25,30 @@ use crate::questions::REPEATED;
 use crate::questions::SETS;
 use crate::questions::WHOLE;
 use crate::verdict::Verdict;
-use records::numbers::byte_at;
 use records::numbers::eight_at;
 use records::record::Found;
 use records::record::record_at;
 ghost use mathlib.Core.Path.{_≡_};
 ghost use Prim.Native.Nat.{ℕ, _+_, _≤_};
 ghost use mathlib.Core.List.{List};
-ghost use mathlib.Core.Bool.{true, cond};
-ghost use lib.Dec.{eqb};
+ghost use mathlib.Core.Bool.{true};
 ghost use lib.ListN.{length};
-ghost use Rattle.task.specs.Reading.{mayStand, lengthFits, headerTurn, actionTurn, presetTurn, caseTurn, closeTurn, kindTurn, turnOf, noIndex, refused, readTask};
-ghost use Rattle.task.specs.Outcome.{state, turned};
+ghost use Rattle.records.specs.declared.record.Found.the-variants.{Record};
+ghost use Rattle.task.specs.Reading.{Progress, mayStand, lengthFits, actionTurn, presetTurn, caseTurn, onRecord, noIndex, noTask, refused, readTask};
+ghost use Rattle.task.specs.Bounds.{inRange};
+ghost use Rattle.task.specs.Outcome.{progress, state, withRecord, turned, readingOf};
 
-// The section of the file that the last record belongs to.
-pub enum Section {
-    Start,
-    Header,
-    Actions,
-    Presets,
-    Cases,
-}
-
-// The next record's offset, the section of the record before it, and the index so far.
-pub struct Progress {
-    pub at: usize,
-    pub section: Section,
-    pub index: Index,
-}
-
-// What one record leads to: the next, a refusal, or the end of the file.
-pub enum Outcome {
-    Next(Progress),
-    Refused(u8, usize),
+// The answer to a record's questions: the reading goes on, the first question that says no and its place, or the file is closed.
+pub enum Answer {
+    Yes,
+    No(u8, usize),
     Closed,
+}
+
+// What a file's records come to: the index of a task that passes, or the first question that says no and its place.
+pub enum Ended {
+    Passed(Index),
+    Refused(u8, usize),
 }
 
 // A task's verdict, and the task where it is accepted.
@@ -69,15 +58,15 @@ pub struct Reading {
 }
 
 // Question 2.
-fn may_stand(section: Section, kind: u16) -> bool
-    ensures { λ r. ⌜ r ≡ mayStand section kind ⌝ }
+fn may_stand(last: u16, kind: u16) -> bool
+    ensures { λ r. ⌜ r ≡ mayStand last kind ⌝ }
 {
-    match section {
-        Section::Start => kind == 1,
-        Section::Header => kind == 2,
-        Section::Actions => (2 <= kind) & (kind <= 4),
-        Section::Presets => (3 <= kind) & (kind <= 4),
-        Section::Cases => (4 <= kind) & (kind <= 5),
+    match last {
+        1 => kind == 2,
+        2 => (2 <= kind) & (kind <= 4),
+        3 => (3 <= kind) & (kind <= 4),
+        4 => (4 <= kind) & (kind <= 5),
+        _ => kind == 1,
     }
 }
 
@@ -94,214 +83,160 @@ fn length_fits(kind: u16, size: usize) -> bool
     }
 }
 
-// The bounds: question 5.
-fn read_header(task: &[u8], progress: Progress, body: usize, next: usize) -> Outcome
-    requires { ⌜ body + 6 ≤ length (now task) ⌝ }
-    ensures { λ r. ⌜ ((o q : List ℕ) →
-        turned (progress .index) r o q
-        ≡ headerTurn (now (task .entry)) (state progress o q) body next) ⌝ }
-{
-    let bounds = bounds_at(task, body);
-    if in_range(bounds) {
-        Outcome::Next(Progress {
-            at: next,
-            section: Section::Header,
-            index: Index {
-                bounds,
-                actions: 0,
-                cases: 0,
-                first: 0,
-            },
-        })
-    } else {
-        Outcome::Refused(BOUNDS, progress.at)
-    }
-}
-
 // An action: questions 4 and 6. Its offset is noted.
-fn read_action(
+fn ask_action(
     task: &[u8],
-    progress: Progress,
+    facts: u8,
+    actions: u8,
+    at: usize,
     body: usize,
     size: usize,
-    next: usize,
     offsets: &mut [usize; 64],
-) -> Outcome
-    requires { ⌜ body + size ≤ length (now task) ⌝ }
-    ensures { λ r. ⌜ ((q : List ℕ) →
-        turned (progress .index) r (now (offsets .exit)) q
-        ≡ actionTurn (now (task .entry)) (state progress (now (offsets .entry)) q) body size next) ⌝ }
+) -> Answer
+    requires { ⌜ (body + size ≤ length (now task)) × (1 ≤ facts) × (facts ≤ 64) ⌝ }
+    ensures { λ r. ⌜ ((p : Progress) (next : ℕ) (q : List ℕ) →
+        p .at ≡ at
+        → p .index .bounds .facts ≡ facts
+        → p .index .actions ≡ actions
+        → turned (now (task .entry)) p 2 body next r (now (offsets .exit)) q
+        ≡ actionTurn (now (task .entry)) (state p (now (offsets .entry)) q) body size next) ⌝ }
 {
-    let at = progress.at;
-    let index = progress.index;
-    let bounds = index.bounds;
-    let number = index.actions as usize;
-    if 64 <= number {
-        return Outcome::Refused(COUNT, at);
+    if 64 <= actions {
+        return Answer::No(COUNT, at);
     }
     let pairs = size / 16;
-    if pairs_before_fault(task, body, pairs, bounds.facts) != pairs {
-        return Outcome::Refused(SETS, at);
+    if pairs_before_fault(task, body, pairs, facts) != pairs {
+        return Answer::No(SETS, at);
     }
-    offsets[number] = at;
-    Outcome::Next(Progress {
-        at: next,
-        section: Section::Actions,
-        index: Index {
-            bounds,
-            actions: index.actions + 1,
-            cases: index.cases,
-            first: index.first,
-        },
-    })
+    offsets[actions as usize] = at;
+    Answer::Yes
 }
 
 // A preset: questions 7 and 8. Its instruction is noted on its line.
-fn read_preset(
+fn ask_preset(
     task: &[u8],
-    progress: Progress,
+    bounds: Bounds,
+    actions: u8,
+    at: usize,
     body: usize,
-    next: usize,
-    presets: &mut [u8],
-) -> Outcome
-    requires { ⌜ body + 5 ≤ length (now task) ⌝ }
-    ensures { λ r. ⌜ ((o : List ℕ) →
-        turned (progress .index) r o (now (presets .exit))
-        ≡ presetTurn (now (task .entry)) (state progress o (now (presets .entry))) body next) ⌝ }
+    presets: &mut [u8; 768],
+) -> Answer
+    requires { ⌜ (body + 5 ≤ length (now task)) × (inRange bounds ≡ true) × (length (now presets) ≡ 768) ⌝ }
+    ensures { λ r. ⌜ ((p : Progress) (next : ℕ) (o : List ℕ) →
+        p .at ≡ at
+        → p .index .bounds ≡ bounds
+        → p .index .actions ≡ actions
+        → turned (now (task .entry)) p 3 body next r o (now (presets .exit))
+        ≡ presetTurn (now (task .entry)) (state p o (now (presets .entry))) body next) ⌝ }
 {
-    let at = progress.at;
-    let index = progress.index;
-    let bounds = index.bounds;
-    let procedure = task[body];
-    let line = task[body + 1];
-    let triple = three_at(task, body + 2);
-    let decoded = decode_for(bounds, index.actions, Proc(procedure), Line(line), triple);
-    let Decoded::Is(_) = decoded else {
-        return Outcome::Refused(PRESET, at);
-    };
-    let offset = line_offset(bounds, Proc(procedure), Line(line));
-    if byte_at(presets, offset) != 0 {
-        return Outcome::Refused(REPEATED, at);
+    let procedure = Proc(task[body]);
+    let line = Line(task[body + 1]);
+    let triple = triple_at(task, body + 2);
+    if !decodes_for(bounds, actions, procedure, line, triple) {
+        return Answer::No(PRESET, at);
+    }
+    let offset = line_offset(bounds, procedure, line);
+    if presets[offset] != 0 {
+        return Answer::No(REPEATED, at);
     }
     put_triple(presets, offset, triple);
-    Outcome::Next(Progress {
-        at: next,
-        section: Section::Presets,
-        index,
-    })
+    Answer::Yes
 }
 
-// The first case's offset: this record's, if it is the first.
-fn first_case(index: Index, at: usize) -> usize
-    ensures { λ r. ⌜ r ≡ cond (eqb (index .cases) 0) at (index .first) ⌝ }
+// A case: questions 4 and 6.
+fn ask_case(task: &[u8], facts: u8, cases: u8, at: usize, body: usize) -> Answer
+    requires { ⌜ (body + 24 ≤ length (now task)) × (1 ≤ facts) × (facts ≤ 64) ⌝ }
+    ensures { λ r. ⌜ ((p : Progress) (next : ℕ) (o q : List ℕ) →
+        p .at ≡ at
+        → p .index .bounds .facts ≡ facts
+        → p .index .cases ≡ cases
+        → turned (now (task .entry)) p 4 body next r o q ≡ caseTurn (now (task .entry)) (state p o q) body next) ⌝ }
 {
-    if index.cases == 0 { at } else { index.first }
+    if 32 <= cases {
+        return Answer::No(COUNT, at);
+    }
+    let most = most(facts);
+    if (eight_at(task, body) <= most) & consistent_to(most, literals_at(task, body + 8)) {
+        return Answer::Yes;
+    }
+    Answer::No(SETS, at)
 }
 
-// A case: questions 4 and 6. The first case's offset is noted.
-fn read_case(task: &[u8], progress: Progress, body: usize, next: usize) -> Outcome
-    requires { ⌜ body + 24 ≤ length (now task) ⌝ }
-    ensures { λ r. ⌜ ((o q : List ℕ) →
-        turned (progress .index) r o q
-        ≡ caseTurn (now (task .entry)) (state progress o q) body next) ⌝ }
-{
-    let at = progress.at;
-    let index = progress.index;
-    let bounds = index.bounds;
-    if 32 <= index.cases {
-        return Outcome::Refused(COUNT, at);
-    }
-    let facts = bounds.facts;
-    if within(facts, eight_at(task, body)) & consistent(facts, literals_at(task, body + 8)) {
-        Outcome::Next(Progress {
-            at: next,
-            section: Section::Cases,
-            index: Index {
-                bounds,
-                actions: index.actions,
-                cases: index.cases + 1,
-                first: first_case(index, at),
-            },
-        })
-    } else {
-        Outcome::Refused(SETS, at)
-    }
-}
-
-// The closing record: question 9.
-fn read_close(task: &[u8], progress: Progress, next: usize) -> Outcome
-    ensures { λ r. ⌜ ((o q : List ℕ) →
-        turned (progress .index) r o q
-        ≡ closeTurn (now (task .entry)) (state progress o q) next) ⌝ }
-{
-    if next == task.len() {
-        Outcome::Closed
-    } else {
-        Outcome::Refused(CLOSED, next)
-    }
-}
-
-// What a record's kind asks, its length being the kind's.
-fn read_body(
+// Questions 2 to 9 of a record that is all there. An action's offset and a preset's instruction are noted.
+fn ask_record(
     task: &[u8],
-    progress: Progress,
+    index: Index,
+    at: usize,
+    last: u16,
     kind: u16,
     body: usize,
     size: usize,
     next: usize,
     offsets: &mut [usize; 64],
-    presets: &mut [u8],
-) -> Outcome
-    requires { ⌜ (body + size ≤ length (now task)) × (lengthFits kind size ≡ true) ⌝ }
+    presets: &mut [u8; 768],
+) -> Answer
+    requires { ⌜ (body + size ≤ length (now task))
+        × (mayStand last kind ≡ true → 2 ≤ kind → inRange (index .bounds) ≡ true)
+        × (length (now presets) ≡ 768) ⌝ }
     ensures { λ r. ⌜
-        turned (progress .index) r (now (offsets .exit)) (now (presets .exit))
-        ≡ kindTurn
+        turned (now (task .entry)) (progress at last index) kind body next r (now (offsets .exit)) (now (presets .exit))
+        ≡ onRecord
         (now (task .entry))
-        (state progress (now (offsets .entry)) (now (presets .entry)))
-        kind
-        body
-        size
-        next ⌝ }
+        (state (progress at last index) (now (offsets .entry)) (now (presets .entry)))
+        (Record kind body size next) ⌝ }
 {
+    if !may_stand(last, kind) {
+        return Answer::No(KIND, at);
+    }
+    if !length_fits(kind, size) {
+        return Answer::No(LENGTH, at);
+    }
+    let bounds = index.bounds;
     match kind {
-        1 => read_header(task, progress, body, next),
-        2 => read_action(task, progress, body, size, next, offsets),
-        3 => read_preset(task, progress, body, next, presets),
-        4 => read_case(task, progress, body, next),
-        _ => read_close(task, progress, next),
+        1 => {
+            if in_range(bounds_at(task, body)) {
+                return Answer::Yes;
+            }
+            Answer::No(BOUNDS, at)
+        }
+        2 => ask_action(task, bounds.facts, index.actions, at, body, size, offsets),
+        3 => ask_preset(task, bounds, index.actions, at, body, presets),
+        4 => ask_case(task, bounds.facts, index.cases, at, body),
+        _ => {
+            if next == task.len() {
+                return Answer::Closed;
+            }
+            Answer::No(CLOSED, next)
+        }
     }
 }
 
-// One record: questions 1 to 3, and then what its kind asks.
-fn read_record(
-    task: &[u8],
-    progress: Progress,
-    offsets: &mut [usize; 64],
-    presets: &mut [u8],
-) -> Outcome
-    ensures { λ r. ⌜
-        turned (progress .index) r (now (offsets .exit)) (now (presets .exit))
-        ≡ turnOf (now (task .entry)) (state progress (now (offsets .entry)) (now (presets .entry))) ⌝ }
+// The index with a record that no question turns down.
+fn with_record(task: &[u8], mut index: Index, kind: u16, at: usize, body: usize) -> Index
+    requires { ⌜ (kind ≡ 1 → body + 6 ≤ length (now task)) × (index .actions ≤ 64) × (index .cases ≤ 32) ⌝ }
+    ensures { λ r. ⌜ r ≡ withRecord (now (task .entry)) index kind at body ⌝ }
 {
-    let at = progress.at;
-    let found = record_at(task, at);
-    let Found::Record {
-        kind,
-        body,
-        length,
-        next,
-    } = found
-    else {
-        return Outcome::Refused(WHOLE, at);
-    };
-    let section = progress.section;
-    if !may_stand(section, kind) {
-        return Outcome::Refused(KIND, at);
+    match kind {
+        1 => {
+            return Index {
+                bounds: bounds_at(task, body),
+                actions: 0,
+                cases: 0,
+                first: 0,
+            };
+        }
+        2 => {
+            index.actions += 1;
+        }
+        4 => {
+            if index.cases == 0 {
+                index.first = at;
+            }
+            index.cases += 1;
+        }
+        _ => {}
     }
-    if !length_fits(kind, length) {
-        return Outcome::Refused(LENGTH, at);
-    }
-    read_body(task, progress, kind, body, length, next, offsets, presets)
+    index
 }
 
 // The index of no task.
@@ -319,6 +254,53 @@ fn no_index() -> Index
         actions: 0,
         cases: 0,
         first: 0,
+    }
+}
+
+// The records one after the other, until a question says no or the file is closed.
+fn read_records(task: &[u8], offsets: &mut [usize; 64], presets: &mut [u8; 768]) -> Ended
+    requires { ⌜ (now offsets ≡ noTask .offsets) × (now presets ≡ noTask .presets) ⌝ }
+    ensures { λ r. ⌜ readingOf r (now (offsets .exit)) (now (presets .exit)) ≡ readTask (now (task .entry)) ⌝ }
+{
+    let mut at = 0;
+    let mut last = 0;
+    let mut index = no_index();
+    loop {
+        let found = record_at(task, at);
+        let Found::Record {
+            kind,
+            body,
+            length,
+            next,
+        } = found
+        else {
+            return Ended::Refused(WHOLE, at);
+        };
+        let answer = ask_record(
+            task,
+            index,
+            at,
+            last,
+            kind,
+            body,
+            length,
+            next,
+            offsets,
+            presets,
+        );
+        match answer {
+            Answer::Yes => {
+                index = with_record(task, index, kind, at, body);
+                last = kind;
+                at = next;
+            }
+            Answer::No(question, place) => {
+                return Ended::Refused(question, place);
+            }
+            Answer::Closed => {
+                return Ended::Passed(index);
+            }
+        }
     }
 }
 
@@ -342,31 +324,20 @@ pub fn read_task(task: &[u8]) -> Reading
 {
     let mut offsets = [0usize; 64];
     let mut presets = [0u8; 768];
-    let mut progress = Progress {
-        at: 0,
-        section: Section::Start,
-        index: no_index(),
-    };
-    loop {
-        let outcome = read_record(task, progress, &mut offsets, &mut presets);
-        match outcome {
-            Outcome::Next(next) => {
-                progress = next;
-            }
-            Outcome::Refused(question, place) => {
-                return refused(question, place);
-            }
-            Outcome::Closed => {
-                let index = progress.index;
-                return Reading {
-                    verdict: Verdict::Accepted { value: 0 },
-                    task: Task {
-                        index,
-                        offsets,
-                        presets,
-                    },
-                };
-            }
+    let ended = read_records(task, &mut offsets, &mut presets);
+    match ended {
+        Ended::Refused(question, place) => {
+            return refused(question, place);
+        }
+        Ended::Passed(index) => {
+            return Reading {
+                verdict: Verdict::Accepted { value: 0 },
+                task: Task {
+                    index,
+                    offsets,
+                    presets,
+                },
+            };
         }
     }
 }

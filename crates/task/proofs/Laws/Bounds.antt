@@ -1,4 +1,4 @@
--- A program's lines, and where they begin, are numbers that a word can hold: the bounds are bytes. And what question 5 says of each bound.
+-- A program's lines, and where they begin, are numbers that a word can hold: the bounds are bytes. And what question 5 says of each bound, and so of a program's length.
 -- Assumes nothing.
 use Prim.Native.Nat.{ℕ, _+_, _*_, _^_, _≤_, _<_}
 use mathlib.Core.Path.{_≡_}
@@ -10,7 +10,10 @@ use native.Mathlib.Omega.{arith}
 use borrow.Author.Tests.{leb-true}
 use Rattle.records.proofs.Laws.Tests.{both-true}
 use Rattle.task.specs.Bounds.{between, inRange}
+use Rattle.task.specs.Program.{lineOffset}
 use Rattle.task.specs.declared.bounds.Bounds.{Bounds}
+use Rattle.task.specs.declared.instruction.Line.{Line}
+use Rattle.task.specs.declared.instruction.Proc.{Proc}
 
 module _ (procedure last : ℕ) (h : procedure < 256) (k : last < 256) where
   few : procedure * (last + 1) ≤ 65280
@@ -56,3 +59,12 @@ ranges b h =
       stack = between-true 1 (b .stack) 16 (h₄ .1);
       steps = between-true 1 (b .steps) 4096 (h₅ .1);
     }
+
+-- a line of a procedure is in a program of 768 bytes
+pub line-within : (b : Bounds) (procedure : Proc) (line : Line) → inRange b ≡ true → procedure .0 < b .procedures → line .0 ≤ b .last
+    → lineOffset b procedure line + 3 ≤ 768
+unfolding lineOffset
+line-within b procedure line h k l =
+    let r = ranges b h in
+    let m : procedure .0 * (b .last + 1) ≤ 224 = mul-le-mul {n₂ = 7} {m₂ = 32} (omega arith) (omega arith) in
+    omega arith

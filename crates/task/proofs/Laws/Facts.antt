@@ -10,17 +10,27 @@ use native.Mathlib.Omega.{arith}
 use lib.Bits.{bitAnd, bitOr, and-le-l, and-le-r, or-add-and, or-lt}
 use lib.Dec.{eqb, leb}
 use lib.Pow.{pow-pos, pow-mono, ones-split, ones-lt, high}
-use borrow.Author.Tests.{lt-ltb, le-ltb, le-leb, lt-leb}
+use borrow.Author.Tests.{lt-ltb, le-ltb, le-leb, lt-leb, eq-eqb, ne-eqb}
 use Rattle.task.proofs.Laws.First.{found-all}
 use Rattle.task.specs.Facts.{literalsAt, within, Greatest, consistent, pairConsistent, pairsBeforeFault}
 use Rattle.task.specs.declared.facts.Literals.{Literals}
 
--- a set has facts below `facts` alone exactly when it is no greater than the greatest such set
-pub most-all : (facts set : ℕ) → 64 ≤ facts → set < 2 ^ 64 → leb set (2 ^ 64 - 1) ≡ within facts set
+-- below no fact there is the empty set alone, and below 64 facts every word
+pub within-none : (facts set : ℕ) → facts ≡ 0 → eqb set 0 ≡ within facts set
 unfolding within
-most-all facts set h k = le-leb set (2 ^ 64 - 1) (omega arith) ∙ sym (lt-ltb _ _ (lt-of-lt-of-le k (pow-mono h)))
+within-none facts set h =
+    rw h
+    (elim (decLe 1 set) [
+      | yes k ↦ ne-eqb set 0 (λ (e : set ≡ 0). omega arith) ∙ sym (le-ltb set 1 k)
+      | no k ↦ eq-eqb set 0 (omega arith) ∙ sym (lt-ltb set 1 (lt-of-not-le k))
+    ])
 
-pub most-below : (facts set : ℕ) → leb set (2 ^ facts - 1) ≡ within facts set
+pub within-all : (facts set : ℕ) → 64 ≤ facts → set < 2 ^ 64 → true ≡ within facts set
+unfolding within
+within-all facts set h k = sym (lt-ltb _ _ (lt-of-lt-of-le k (pow-mono h)))
+
+-- a set has facts below `facts` alone exactly when it is no greater than the greatest such set
+most-below : (facts set : ℕ) → leb set (2 ^ facts - 1) ≡ within facts set
 unfolding within
 most-below facts set =
     let p = pow-pos facts in
@@ -30,7 +40,7 @@ most-below facts set =
     ]
 
 -- the greatest such set is the `facts` lowest of a word's bits
-pub most-shifted : (facts set : ℕ) → facts < 64 → leb set ((2 ^ 64 - 1) / 2 ^ (64 - facts)) ≡ within facts set
+pub most-shifted : (facts set : ℕ) → facts ≤ 64 → leb set ((2 ^ 64 - 1) / 2 ^ (64 - facts)) ≡ within facts set
 most-shifted facts set h =
     let rest = 64 - facts in
     let all : facts + rest ≡ 64 = omega arith in

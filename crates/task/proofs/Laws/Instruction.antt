@@ -1,18 +1,19 @@
--- Decoding op by op, that what is decoded is allowed on its line, that decoding and encoding are inverse to one another where the instruction
+-- The tests of each op, that what is decoded is allowed on its line, that decoding and encoding are inverse to one another where the instruction
 -- is allowed, and what questions 7 and 15 say of an instruction that they let pass.
 -- Assumes nothing.
 use Prim.Native.Nat.{ℕ, zero, suc, _+_, _≤_, _<_}
 use mathlib.Core.List.{List}
 use lib.ListN.{length, set, length-set}
-use lib.Seq.{set-out}
 use mathlib.Core.Path.{_≡_, refl, sym, ap, _∙_}
-use mathlib.Core.Bool.{Bool, true, false, _&&_}
+use mathlib.Core.Bool.{Bool, true, false, false≢true, _&&_}
 use lib.Dec.{leb, ltb, eqb}
-use borrow.Author.Tests.{lt-ltb, le-leb, ltb-true, leb-true, eq-eqb, ne-eqb, eqb-true}
+use borrow.Author.Tests.{ltb-true, leb-true, ne-eqb, eqb-true}
 use native.Mathlib.Omega.{arith}
-use Rattle.records.proofs.Laws.Numbers.{byte-missing}
 use Rattle.records.proofs.Laws.Tests.{both-true}
-use Rattle.task.specs.Instruction.{keep, spelled, allowed, whereAllowed, decode, decodeFor, encode, tripleAt, withTriple}
+use Rattle.task.specs.Instruction.{keep, spelled, allowed, whereAllowed, decode, decodeFor, encode, withTriple}
+use Rattle.task.proofs.Laws.Bounds.{line-within}
+use Rattle.task.specs.Bounds.{inRange}
+use Rattle.task.specs.Program.{lineOffset, isInstruction}
 use Rattle.task.specs.declared.bounds.Bounds.{Bounds}
 use Rattle.task.specs.declared.instruction.Line.{Line}
 use Rattle.task.specs.declared.instruction.Proc.{Proc}
@@ -35,18 +36,32 @@ pub keep-yes : (t : Bool) (d : Decoded) → t ≡ true → d ≡ keep t d
 unfolding keep
 keep-yes t d h = rw h
 
-pub keep-no : (t : Bool) (d : Decoded) → t ≡ false → Nothing ≡ keep t d
-unfolding keep
-keep-no t d h = rw h
+-- whether an instruction is kept
+keep-test : (t : Bool) (d : Decoded) → (t && isInstruction d) ≡ isInstruction (keep t d)
+unfolding keep isInstruction
+keep-test true d = refl
+keep-test false d = refl
 
-kept-yes : (zeros ok : Bool) (d : Decoded) → zeros ≡ true → ok ≡ true → d ≡ keep zeros (keep ok d)
-kept-yes zeros ok d z o = keep-yes ok d o ∙ keep-yes zeros _ z
+keeps-test : (zeros ok : Bool) (w : Instruction) → (zeros && ok) ≡ isInstruction (keep zeros (keep ok (Is w)))
+unfolding keep isInstruction
+keeps-test true true w = refl
+keeps-test true false w = refl
+keeps-test false ok w = refl
 
-kept-no : (zeros ok : Bool) (d : Decoded) → (zeros ≡ true → ok ≡ true → ⊥) → Nothing ≡ keep zeros (keep ok d)
-unfolding keep
-kept-no true true d n = absurd (n refl refl)
-kept-no true false d n = refl
-kept-no false ok d n = refl
+kept-is : (t : Bool) (d : Decoded) → isInstruction (keep t d) ≡ true → isInstruction d ≡ true
+unfolding keep isInstruction
+kept-is true d h = h
+kept-is false d h = absurd (false≢true h)
+
+pub not-instruction : (d : Decoded) → isInstruction d ≡ false → d ≡ Nothing
+unfolding isInstruction
+not-instruction (Is w) h = absurd (false≢true (sym h))
+not-instruction Nothing h = refl
+
+pub instruction-is : (d : Decoded) → isInstruction d ≡ true → (w : Instruction) × (d ≡ Is w)
+unfolding isInstruction
+instruction-is (Is w) h = (w, refl)
+instruction-is Nothing h = absurd (false≢true h)
 
 -- an op above 4 spells none
 pub spelled-other : (w : Triple) → 5 ≤ w .op → spelled w ≡ Nothing
@@ -66,37 +81,60 @@ module _ (b : Bounds) (actions : ℕ) (line : Line) where
   line-keep true w = refl
   line-keep false w = refl
 
+  -- the tests of each op
   module _ (w : Triple) where
-    pub decode-empty : w .op ≡ 0
-        → keep (eqb (w .p) 0 && eqb (w .q) 0) (keep (allowed b actions line Empty) (Is Empty)) ≡ decode b actions line w
-    unfolding decode spelled
-    decode-empty h = rw h (line-keep _ _)
+    pub test-empty : w .op ≡ 0 → (eqb (w .p) 0 && eqb (w .q) 0 && leb (line .0) (b .last)) ≡ isInstruction (decode b actions line w)
+    unfolding decode spelled allowed
+    test-empty h = rw h (keeps-test _ _ _ ∙ ap isInstruction (line-keep _ Empty))
 
-    pub decode-act : w .op ≡ 1
-        → keep (eqb (w .q) 0) (keep (allowed b actions line (Act (w .p))) (Is (Act (w .p)))) ≡ decode b actions line w
-    unfolding decode spelled
-    decode-act h = rw h (line-keep _ _)
+    pub test-act : w .op ≡ 1 → (eqb (w .q) 0 && (ltb (line .0) (b .last) && ltb (w .p) actions)) ≡ isInstruction (decode b actions line w)
+    unfolding decode spelled allowed
+    test-act h = rw h (keeps-test _ _ _ ∙ ap isInstruction (line-keep _ (Act (w .p))))
 
-    pub decode-goto : w .op ≡ 2
-        → keep true (keep (allowed b actions line (Goto (record { 0 = w .p }) (w .q))) (Is (Goto (record { 0 = w .p }) (w .q))))
-        ≡ decode b actions line w
-    unfolding decode spelled keep
-    decode-goto h = rw h (line-keep true _)
+    pub test-goto : w .op ≡ 2
+        → (ltb (line .0) (b .last) && leb (w .p) (b .last) && ltb (w .q) (b .facts)) ≡ isInstruction (decode b actions line w)
+    unfolding decode spelled allowed keep
+    test-goto h = rw h (keeps-test true _ _ ∙ ap isInstruction (line-keep true (Goto (record { 0 = w .p }) (w .q))))
 
-    pub decode-call : w .op ≡ 3
-        → keep (eqb (w .q) 0) (keep (allowed b actions line (Call (record { 0 = w .p }))) (Is (Call (record { 0 = w .p }))))
-        ≡ decode b actions line w
-    unfolding decode spelled
-    decode-call h = rw h (line-keep _ _)
+    pub test-call : w .op ≡ 3
+        → (eqb (w .q) 0 && (ltb (line .0) (b .last) && ltb (w .p) (b .procedures))) ≡ isInstruction (decode b actions line w)
+    unfolding decode spelled allowed
+    test-call h = rw h (keeps-test _ _ _ ∙ ap isInstruction (line-keep _ (Call (record { 0 = w .p }))))
 
-    pub decode-end : w .op ≡ 4
-        → keep (eqb (w .p) 0 && eqb (w .q) 0) (keep (allowed b actions line End) (Is End)) ≡ decode b actions line w
-    unfolding decode spelled
-    decode-end h = rw h (line-keep _ _)
+    pub test-end : w .op ≡ 4
+        → (eqb (w .p) 0 && eqb (w .q) 0 && (leb 1 (line .0) && leb (line .0) (b .last))) ≡ isInstruction (decode b actions line w)
+    unfolding decode spelled allowed
+    test-end h = rw h (keeps-test _ _ _ ∙ ap isInstruction (line-keep _ End))
 
-    pub decode-other : 5 ≤ w .op → Nothing ≡ decode b actions line w
-    unfolding decode whereAllowed
-    decode-other h = rw (spelled-other w h) refl
+    pub test-other : 5 ≤ w .op → false ≡ isInstruction (decode b actions line w)
+    unfolding decode whereAllowed isInstruction
+    test-other h = rw (spelled-other w h) refl
+
+    -- questions 7 and 15
+    pub test-for : (j : Proc)
+        → (ltb (j .0) (b .procedures) && ltb 0 (w .op) && isInstruction (decode b actions line w))
+        ≡ isInstruction (decodeFor b actions j line w)
+    unfolding decodeFor
+    test-for j = keep-test _ _
+
+    -- what is decoded is what is spelled, kept by its own test
+    pub decode-keeps : keep (isInstruction (decode b actions line w)) (spelled w) ≡ decode b actions line w
+    unfolding decode whereAllowed isInstruction keep
+    decode-keeps = by (spelled w)
+      where
+        on : (v : Instruction) (t : Bool) → keep (isInstruction (keep t (Is v))) (Is v) ≡ keep t (Is v)
+        on v true = refl
+        on v false = refl
+
+        by : (d : Decoded) → keep (isInstruction (whereAllowed b actions line d)) d ≡ whereAllowed b actions line d
+        by (Is v) = on v (allowed b actions line v)
+        by Nothing = refl
+
+    pub decode-spells : isInstruction (decode b actions line w) ≡ true → isInstruction (spelled w) ≡ true
+    decode-spells h = kept-is _ _ (ap isInstruction decode-keeps ∙ h)
+
+    pub decode-is : (v : Instruction) → isInstruction (decode b actions line w) ≡ true → spelled w ≡ Is v → Is v ≡ decode b actions line w
+    decode-is v h e = sym e ∙ keep-yes _ _ h ∙ decode-keeps
 
   -- what is asked of an instruction on a line, in words
   abbrev pub Allowed : Instruction → Type 0
@@ -122,64 +160,6 @@ module _ (b : Bounds) (actions : ℕ) (line : Line) where
   allows End h =
       let k = both-true (leb 1 (line .0)) _ h in
       (leb-true 1 (line .0) (k .0), leb-true (line .0) (b .last) (k .1))
-
-  allowing : (w : Instruction) → Allowed w → allowed b actions line w ≡ true
-  unfolding allowed
-  allowing Empty h = le-leb (line .0) (b .last) h
-  allowing (Act action) h = simp (lt-ltb (line .0) (b .last) (h .0), lt-ltb action actions (h .1))
-  allowing (Goto target fact) h =
-      simp (lt-ltb (line .0) (b .last) (h .0), le-leb (target .0) (b .last) (h .1), lt-ltb fact (b .facts) (h .2))
-  allowing (Call procedure) h = simp (lt-ltb (line .0) (b .last) (h .0), lt-ltb (procedure .0) (b .procedures) (h .1))
-  allowing End h = simp (le-leb 1 (line .0) (h .0), le-leb (line .0) (b .last) (h .1))
-
-  -- three bytes by their op, test by test: `yes` where each passes, `no` where they do not all pass
-  module _ (w : Triple) where
-    module _ (zeros : Bool) (v : Instruction) (e : keep zeros (keep (allowed b actions line v) (Is v)) ≡ decode b actions line w) where
-      decode-yes : zeros ≡ true → Allowed v → Is v ≡ decode b actions line w
-      decode-yes z a = kept-yes zeros _ _ z (allowing v a) ∙ e
-
-      decode-no : (zeros ≡ true → Allowed v → ⊥) → Nothing ≡ decode b actions line w
-      decode-no n = kept-no zeros _ _ (λ z a. n z (allows v a)) ∙ e
-
-    both-zero : w .p ≡ 0 → w .q ≡ 0 → (eqb (w .p) 0 && eqb (w .q) 0) ≡ true
-    both-zero p q = simp (eq-eqb (w .p) 0 p, eq-eqb (w .q) 0 q)
-
-    zero-both : (eqb (w .p) 0 && eqb (w .q) 0) ≡ true → (w .p ≡ 0) × (w .q ≡ 0)
-    zero-both z =
-        let k = both-true (eqb (w .p) 0) (eqb (w .q) 0) z in
-        (eqb-true (w .p) 0 (k .0), eqb-true (w .q) 0 (k .1))
-
-    pub empty-yes : w .op ≡ 0 → line .0 ≤ b .last → w .p ≡ 0 → w .q ≡ 0 → Is Empty ≡ decode b actions line w
-    empty-yes h l p q = decode-yes _ Empty (decode-empty w h) (both-zero p q) l
-
-    pub empty-no : w .op ≡ 0 → (line .0 ≤ b .last → w .p ≡ 0 → w .q ≡ 0 → ⊥) → Nothing ≡ decode b actions line w
-    empty-no h n = decode-no _ Empty (decode-empty w h) λ z a. let k = zero-both z in n a (k .0) (k .1)
-
-    pub act-yes : w .op ≡ 1 → line .0 < b .last → w .p < actions → w .q ≡ 0 → Is (Act (w .p)) ≡ decode b actions line w
-    act-yes h l p q = decode-yes _ (Act (w .p)) (decode-act w h) (eq-eqb _ _ q) (l, p)
-
-    pub act-no : w .op ≡ 1 → (line .0 < b .last → w .p < actions → w .q ≡ 0 → ⊥) → Nothing ≡ decode b actions line w
-    act-no h n = decode-no _ (Act (w .p)) (decode-act w h) λ z a. n (a .0) (a .1) (eqb-true _ _ z)
-
-    pub goto-yes : w .op ≡ 2 → line .0 < b .last → w .p ≤ b .last → w .q < b .facts
-        → Is (Goto (record { 0 = w .p }) (w .q)) ≡ decode b actions line w
-    goto-yes h l p q = decode-yes true (Goto (record { 0 = w .p }) (w .q)) (decode-goto w h) refl (l, p, q)
-
-    pub goto-no : w .op ≡ 2 → (line .0 < b .last → w .p ≤ b .last → w .q < b .facts → ⊥) → Nothing ≡ decode b actions line w
-    goto-no h n = decode-no true (Goto (record { 0 = w .p }) (w .q)) (decode-goto w h) λ z a. n (a .0) (a .1) (a .2)
-
-    pub call-yes : w .op ≡ 3 → line .0 < b .last → w .p < b .procedures → w .q ≡ 0
-        → Is (Call (record { 0 = w .p })) ≡ decode b actions line w
-    call-yes h l p q = decode-yes _ (Call (record { 0 = w .p })) (decode-call w h) (eq-eqb _ _ q) (l, p)
-
-    pub call-no : w .op ≡ 3 → (line .0 < b .last → w .p < b .procedures → w .q ≡ 0 → ⊥) → Nothing ≡ decode b actions line w
-    call-no h n = decode-no _ (Call (record { 0 = w .p })) (decode-call w h) λ z a. n (a .0) (a .1) (eqb-true _ _ z)
-
-    pub end-yes : w .op ≡ 4 → 1 ≤ line .0 → line .0 ≤ b .last → w .p ≡ 0 → w .q ≡ 0 → Is End ≡ decode b actions line w
-    end-yes h k l p q = decode-yes _ End (decode-end w h) (both-zero p q) (k, l)
-
-    pub end-no : w .op ≡ 4 → (1 ≤ line .0 → line .0 ≤ b .last → w .p ≡ 0 → w .q ≡ 0 → ⊥) → Nothing ≡ decode b actions line w
-    end-no h n = decode-no _ End (decode-end w h) λ z a. let k = zero-both z in n (a .0) (a .1) (k .0) (k .1)
 
   where-allowed : (d : Decoded) (w : Instruction) → whereAllowed b actions line d ≡ Is w → allowed b actions line w ≡ true
   unfolding whereAllowed
@@ -286,25 +266,14 @@ decoded-for b actions j l t w h =
       allowed = there;
     }
 
-pub triple-missing : (bytes : List ℕ) (at : ℕ) → length bytes ≤ at → _≡_ {A = Triple} (record { op = 0; p = 0; q = 0 }) (tripleAt bytes at)
-unfolding tripleAt
-triple-missing bytes at h =
-    cc (byte-missing bytes at h, byte-missing bytes (at + 1) (omega arith), byte-missing bytes (at + 2) (omega arith))
-
-pub put-missing : (bytes : List ℕ) (at : ℕ) (w : Triple) → length bytes ≤ at → bytes ≡ withTriple bytes at w
-unfolding withTriple
-put-missing bytes at w h =
-    let e : set bytes at (w .op) ≡ bytes = set-out bytes at (w .op) h in
-    let f : set bytes (at + 1) (w .p) ≡ bytes = set-out bytes (at + 1) (w .p) (omega arith) in
-    let g : set bytes (at + 2) (w .q) ≡ bytes = set-out bytes (at + 2) (w .q) (omega arith) in
-    cc
+-- the three bytes of a line for which questions 7 and 15 let an instruction pass are in a program of 768 bytes
+pub decoded-there : (b : Bounds) (actions : ℕ) (j : Proc) (l : Line) (t : Triple) → isInstruction (decodeFor b actions j l t) ≡ true → inRange b ≡ true
+    → lineOffset b j l + 3 ≤ 768
+decoded-there b actions j l t h r =
+    let some = instruction-is _ h in
+    let d = decoded-for b actions j l t (some .0) (some .1) in
+    line-within b j l r (d .procedure) (d .line)
 
 pub put-length : (bytes : List ℕ) (at : ℕ) (w : Triple) → length (withTriple bytes at w) ≡ length bytes
 unfolding withTriple
 put-length bytes at w = simp length-set
-
-pub put-three : (bytes first second third : List ℕ) (at : ℕ) (w : Triple) → first ≡ set bytes at (w .op) → second ≡ set first (at + 1) (w .p)
-    → third ≡ set second (at + 2) (w .q) → third ≡ withTriple bytes at w
-unfolding withTriple
-put-three bytes first second third at w e f g =
-    g ∙ ap (λ (l : List ℕ). set l (at + 2) (w .q)) (f ∙ ap (λ (l : List ℕ). set l (at + 1) (w .p)) e)

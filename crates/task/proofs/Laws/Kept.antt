@@ -1,5 +1,5 @@
 -- What each turn of a task's reading keeps, its answer has. The property is to be shown of each kind's turn alone, with what questions 1 to
--- 3 say of a record of this kind: after which sections it may stand, where its body and the next record begin, how long it is, and of an
+-- 3 say of a record of this kind: after which kinds it may stand, where its body and the next record begin, how long it is, and of an
 -- action and a case that it ends in the file. For question 3's test and the turn are chosen by the same kind.
 -- Assumes nothing.
 use Prim.Native.Nat.{ℕ, _+_, _%_, _≤_}
@@ -19,52 +19,50 @@ use Rattle.records.proofs.Laws.Loop.{Keeps, ask-keeps, loop-keeps}
 use Rattle.records.proofs.Laws.Record.{record-ends}
 use Rattle.records.proofs.Laws.Tests.{both-true}
 use Rattle.task.proofs.Laws.Bounds.{between-true}
+use Rattle.task.specs.Bounds.{between}
 use Rattle.task.specs.Questions.{WHOLE, KIND, LENGTH}
 use Rattle.task.specs.Reading.{State, begin, refused, mayStand, byKind, lengthFits, headerTurn, actionTurn, presetTurn, caseTurn, closeTurn, kindTurn, onRecord, turnOf, left, readTask}
 use Rattle.task.specs.declared.reading.Reading.{Reading}
-use Rattle.task.specs.declared.reading.Section.{Section}
-use Rattle.task.specs.declared.reading.Section.the-variants.{Start, Header, Actions, Presets, Cases}
 
--- the least and the greatest kind that may stand after a section
-abbrev pub least : Section → ℕ
-least Start = 1
-least Header = 2
-least Actions = 2
-least Presets = 3
-least Cases = 4
+-- the least and the greatest kind that may stand after a kind, or at the start
+abbrev pub least : ℕ → ℕ
+least last = cond (eqb last 1) 2 (cond (eqb last 2) 2 (cond (eqb last 3) 3 (cond (eqb last 4) 4 1)))
 
-abbrev pub greatest : Section → ℕ
-greatest Start = 1
-greatest Header = 2
-greatest Actions = 4
-greatest Presets = 4
-greatest Cases = 5
+abbrev pub greatest : ℕ → ℕ
+greatest last = cond (eqb last 1) 2 (cond (eqb last 2) 4 (cond (eqb last 3) 4 (cond (eqb last 4) 5 1)))
 
--- a kind that may stand after a section
-pub record Follows (section : Section) (kind : ℕ) : Type 0 where
+-- a kind that may stand after a kind
+pub record Follows (last kind : ℕ) : Type 0 where
   pub known : (1 ≤ kind) × (kind ≤ 5)
-  pub low : least section ≤ kind
-  pub high : kind ≤ greatest section
+  pub low : least last ≤ kind
+  pub high : kind ≤ greatest last
 
-pub follows : (section : Section) (kind : ℕ) → mayStand section kind ≡ true → Follows section kind
-unfolding mayStand
-follows Start kind h = omega (arith, eqb-true kind 1 h)
-follows Header kind h = omega (arith, eqb-true kind 2 h)
-follows Actions kind h = omega (arith, between-true 2 kind 4 h)
-follows Presets kind h = omega (arith, between-true 3 kind 4 h)
-follows Cases kind h = omega (arith, between-true 4 kind 5 h)
+pub follows : (last kind : ℕ) → mayStand last kind ≡ true → Follows last kind
+unfolding mayStand byKind
+follows last kind h =
+    let k = by (eqb last 1) (eqb last 2) (eqb last 3) (eqb last 4) h in
+    record { known = k .0; low = k .1; high = k .2 }
+  where
+    by : (a b c d : Bool)
+        → cond a (eqb kind 2) (cond b (between 2 kind 4) (cond c (between 3 kind 4) (cond d (between 4 kind 5) (eqb kind 1)))) ≡ true
+        → ((1 ≤ kind) × (kind ≤ 5)) × (cond a 2 (cond b 2 (cond c 3 (cond d 4 1))) ≤ kind) × (kind ≤ cond a 2 (cond b 4 (cond c 4 (cond d 5 1))))
+    by true b c d t = omega (arith, eqb-true kind 2 t)
+    by false true c d t = omega (arith, between-true 2 kind 4 t)
+    by false false true d t = omega (arith, between-true 3 kind 4 t)
+    by false false false true t = omega (arith, between-true 4 kind 5 t)
+    by false false false false t = omega (arith, eqb-true kind 1 t)
 
 -- what is to be shown of a state: of a refusal at its offset, and of the turn of each kind that may stand there, its record as long as
 -- question 3 asks
 pub record Kinds (P : State → Type 0) (Q : Reading → Type 0) (bytes : List ℕ) (s : State) : Type 0 where
   pub refusal : (question : ℕ) → Q (refused question (s .progress .at))
-  pub header : Follows (s .progress .section) 1 → Keeps P Q (headerTurn bytes s (s .progress .at + 4) (s .progress .at + 10))
-  pub action : (size : ℕ) → Follows (s .progress .section) 2 → size ≡ u16At bytes (s .progress .at) → size ≤ 272 → size % 32 ≡ 16
+  pub header : Follows (s .progress .last) 1 → Keeps P Q (headerTurn bytes s (s .progress .at + 4) (s .progress .at + 10))
+  pub action : (size : ℕ) → Follows (s .progress .last) 2 → size ≡ u16At bytes (s .progress .at) → size ≤ 272 → size % 32 ≡ 16
       → s .progress .at + (4 + size) ≤ length bytes → Keeps P Q (actionTurn bytes s (s .progress .at + 4) size (s .progress .at + (4 + size)))
-  pub preset : Follows (s .progress .section) 3 → Keeps P Q (presetTurn bytes s (s .progress .at + 4) (s .progress .at + 9))
-  pub case : Follows (s .progress .section) 4 → s .progress .at + 28 ≤ length bytes
+  pub preset : Follows (s .progress .last) 3 → Keeps P Q (presetTurn bytes s (s .progress .at + 4) (s .progress .at + 9))
+  pub case : Follows (s .progress .last) 4 → s .progress .at + 28 ≤ length bytes
       → Keeps P Q (caseTurn bytes s (s .progress .at + 4) (s .progress .at + 28))
-  pub close : Follows (s .progress .section) 5 → Keeps P Q (closeTurn bytes s (s .progress .at + 4))
+  pub close : Follows (s .progress .last) 5 → Keeps P Q (closeTurn bytes s (s .progress .at + 4))
 
 module _ (P : State → Type 0) (Q : Reading → Type 0) where
   -- a turn and its question 3, chosen by one test
@@ -90,7 +88,7 @@ module _ (P : State → Type 0) (Q : Reading → Type 0) where
   module _ (bytes : List ℕ) where
     -- the record that the kind's turn reads: its body begins after its head, and the next record where the body ends
     record-keeps : (s : State) → Kinds P Q bytes s → (kind body size next : ℕ) → recordAt bytes (s .progress .at) ≡ Record kind body size next
-        → Follows (s .progress .section) kind → lengthFits kind size ≡ true → Keeps P Q (kindTurn bytes s kind body size next)
+        → Follows (s .progress .last) kind → lengthFits kind size ≡ true → Keeps P Q (kindTurn bytes s kind body size next)
     unfolding kindTurn
     record-keeps s k kind body size next e f l =
         let r = record-ends bytes (s .progress .at) kind body size next e in
@@ -109,9 +107,9 @@ module _ (P : State → Type 0) (Q : Reading → Type 0) where
     found-keeps s k (Record kind body size next) e =
         ask-keeps P Q _ _ _ (k .refusal KIND) λ h.
         ask-keeps P Q _ _ _ (k .refusal LENGTH) λ l.
-        record-keeps s k kind body size next e (follows (s .progress .section) kind h) l
+        record-keeps s k kind body size next e (follows (s .progress .last) kind h) l
 
-    turn-keeps : (s : State) → Kinds P Q bytes s → Keeps P Q (turnOf bytes s)
+    pub turn-keeps : (s : State) → Kinds P Q bytes s → Keeps P Q (turnOf bytes s)
     unfolding turnOf
     turn-keeps s k = found-keeps s k (recordAt bytes (s .progress .at)) refl
 

@@ -3,7 +3,7 @@
 -- record, so every state has it of what was read so far; and only the closing record, which follows a case, ends with a task that passes.
 -- Assumes nothing.
 use Prim.Native.Nat.{ℕ, _+_, _*_, _/_, _%_, _≤_, _<_}
-use mathlib.Core.Path.{_≡_}
+use mathlib.Core.Path.{_≡_, sym}
 use mathlib.Core.Bool.{Bool, true, cond, _&&_}
 use mathlib.Core.List.{List}
 use native.Mathlib.Decide.{ℕ-discrete}
@@ -12,20 +12,21 @@ use lib.ListN.{length, set, getD, length-set, length-replicate}
 use lib.Seq.{getD-set-same, getD-set-other}
 use lib.Dec.{eqb}
 use borrow.Author.Tests.{ltb-true, eqb-true, eq-eqb, ne-eqb}
-use Rattle.records.specs.Loop.{Turn, ask}
+use Rattle.task.specs.Outcome.{state}
+use Rattle.records.specs.Loop.{Turn, ask, go}
 use Rattle.records.specs.Numbers.{byteAt, u16At, u64At}
 use Rattle.records.proofs.Laws.Loop.{Keeps, ask-keeps}
 use Rattle.records.proofs.Laws.Tests.{both-true}
 use Rattle.task.proofs.Laws.Facts.{pairs-consistent}
 use Rattle.task.proofs.Laws.Instruction.{put-length}
-use Rattle.task.proofs.Laws.Kept.{least, greatest, Follows, Kinds, reading-keeps}
+use Rattle.task.proofs.Laws.Kept.{least, greatest, Follows, Kinds, reading-keeps, turn-keeps, follows}
 use Rattle.task.proofs.Laws.Verdict.{refused-accepted}
 use Rattle.task.specs.Bounds.{inRange}
 use Rattle.task.specs.Facts.{literalsAt, within, consistent, pairsBeforeFault}
 use Rattle.task.specs.Index.{actionAt, effectAt, caseAt}
 use Rattle.task.specs.Instruction.{encode}
 use Rattle.task.specs.Program.{lineOffset}
-use Rattle.task.specs.Reading.{State, noIndex, noTask, begin, refused, accepted, headerTurn, actionTurn, onPreset, presetTurn, caseTurn, closeTurn, readTask}
+use Rattle.task.specs.Reading.{State, noIndex, noTask, begin, refused, accepted, headerTurn, actionTurn, onPreset, presetTurn, caseTurn, closeTurn, readTask, turnOf, Progress, mayStand}
 use Rattle.task.specs.declared.index.Task.{Task}
 use Rattle.task.specs.declared.instruction.Decoded.{Decoded}
 use Rattle.task.specs.declared.instruction.Decoded.the-variants.{Is, Nothing}
@@ -105,28 +106,28 @@ module _ (at first cases : ℕ) where
 one-more : (R : ℕ → Type 0) (count : ℕ) → ((k : ℕ) → k < count → R k) → R count → (k : ℕ) → k < count + 1 → R k
 one-more R count before last k h = elim (ℕ-discrete k count) [ yes e ↦ rw e last | no n ↦ before k (omega arith) ]
 
--- the counts of a state that the reading may come to: no case before the section of the cases and at least one in it, the cases one
+-- the counts of a state that the reading may come to: no case before the records of kind 4 and at least one among them, the cases one
 -- behind the other up to the reading's offset
-record Counted (s : State) : Type 0 where
-  offsets : length (s .offsets) ≡ 64
-  presets : length (s .presets) ≡ 768
-  actions : s .progress .index .actions ≤ 64
-  cases : s .progress .index .cases ≤ 32
-  none : least (s .progress .section) ≤ 3 → s .progress .index .cases ≡ 0
-  some : 5 ≤ greatest (s .progress .section) → 1 ≤ s .progress .index .cases
-  placed : 1 ≤ s .progress .index .cases → s .progress .at ≡ s .progress .index .first + 28 * s .progress .index .cases
+pub record Counted (s : State) : Type 0 where
+  pub offsets : length (s .offsets) ≡ 64
+  pub presets : length (s .presets) ≡ 768
+  pub actions : s .progress .index .actions ≤ 64
+  pub cases : s .progress .index .cases ≤ 32
+  pub none : least (s .progress .last) ≤ 3 → s .progress .index .cases ≡ 0
+  pub some : 5 ≤ greatest (s .progress .last) → 1 ≤ s .progress .index .cases
+  pub placed : 1 ≤ s .progress .index .cases → s .progress .at ≡ s .progress .index .first + 28 * s .progress .index .cases
 
 -- such a state: its bounds, actions and cases, once read, are as those of a task that passes
-record Reached (bytes : List ℕ) (s : State) : Type 0 where
-  counted : Counted s
-  bounded : 2 ≤ greatest (s .progress .section) → inRange (s .progress .index .bounds) ≡ true
-  action : (a : ℕ) → a < s .progress .index .actions → ActionSound (s .progress .index .bounds .facts) bytes (getD (s .offsets) a 0)
-  case : (c : ℕ) → c < s .progress .index .cases → CaseSound (s .progress .index .bounds .facts) bytes (s .progress .index .first) c
-  held : (a : ℕ) → a < s .progress .index .actions → ActionThere bytes (getD (s .offsets) a 0)
-  cased : s .progress .index .first + 28 * s .progress .index .cases ≤ length bytes
+pub record Reached (bytes : List ℕ) (s : State) : Type 0 where
+  pub counted : Counted s
+  pub bounded : 2 ≤ greatest (s .progress .last) → inRange (s .progress .index .bounds) ≡ true
+  pub action : (a : ℕ) → a < s .progress .index .actions → ActionSound (s .progress .index .bounds .facts) bytes (getD (s .offsets) a 0)
+  pub case : (c : ℕ) → c < s .progress .index .cases → CaseSound (s .progress .index .bounds .facts) bytes (s .progress .index .first) c
+  pub held : (a : ℕ) → a < s .progress .index .actions → ActionThere bytes (getD (s .offsets) a 0)
+  pub cased : s .progress .index .first + 28 * s .progress .index .cases ≤ length bytes
 
 module _ (bytes : List ℕ) where
-  begin-reached : Reached bytes begin
+  pub begin-reached : Reached bytes begin
   unfolding begin noTask noIndex
   begin-reached =
       record {
@@ -168,7 +169,7 @@ module _ (bytes : List ℕ) where
           cased = omega arith;
         }
 
-    action-kept : (size next : ℕ) → Follows (s .progress .section) 2 → size ≡ u16At bytes (s .progress .at) → size % 32 ≡ 16
+    action-kept : (size next : ℕ) → Follows (s .progress .last) 2 → size ≡ u16At bytes (s .progress .at) → size % 32 ≡ 16
         → s .progress .at + (4 + size) ≤ length bytes → Kept (actionTurn bytes s (s .progress .at + 4) size next)
     unfolding actionTurn
     action-kept size next f e m there =
@@ -193,7 +194,7 @@ module _ (bytes : List ℕ) where
           cased = reached .cased;
         }
 
-    on-preset-kept : (body next : ℕ) → Follows (s .progress .section) 3 → (d : Decoded) → Kept (onPreset bytes s body next d)
+    on-preset-kept : (body next : ℕ) → Follows (s .progress .last) 3 → (d : Decoded) → Kept (onPreset bytes s body next d)
     unfolding onPreset
     on-preset-kept body next f Nothing = refused-sound _ _
     on-preset-kept body next f (Is w) =
@@ -208,11 +209,11 @@ module _ (bytes : List ℕ) where
           cased = reached .cased;
         }
 
-    preset-kept : (body next : ℕ) → Follows (s .progress .section) 3 → Kept (presetTurn bytes s body next)
+    preset-kept : (body next : ℕ) → Follows (s .progress .last) 3 → Kept (presetTurn bytes s body next)
     unfolding presetTurn
     preset-kept body next f = on-preset-kept body next f _
 
-    case-kept : Follows (s .progress .section) 4 → s .progress .at + 28 ≤ length bytes → Kept (caseTurn bytes s (s .progress .at + 4) (s .progress .at + 28))
+    case-kept : Follows (s .progress .last) 4 → s .progress .at + 28 ≤ length bytes → Kept (caseTurn bytes s (s .progress .at + 4) (s .progress .at + 28))
     unfolding caseTurn
     case-kept f there =
         ask-kept _ _ _ _ λ h.
@@ -232,7 +233,7 @@ module _ (bytes : List ℕ) where
           cased = omega (arith, behind);
         }
 
-    close-kept : (next : ℕ) → Follows (s .progress .section) 5 → Kept (closeTurn bytes s next)
+    close-kept : (next : ℕ) → Follows (s .progress .last) 5 → Kept (closeTurn bytes s next)
     unfolding closeTurn accepted
     close-kept next f =
         ask-kept _ _ _ _ λ h v e.
@@ -258,6 +259,15 @@ module _ (bytes : List ℕ) where
           case = case-kept;
           close = λ f. close-kept _ f;
         }
+
+-- a turn that goes on goes to such a state again
+pub next-reached : (bytes : List ℕ) (s t : State) → Reached bytes s → go t ≡ turnOf bytes s → Reached bytes t
+next-reached bytes s t r e = rw (sym e) at (turn-keeps (Reached bytes) (Sound bytes) bytes s (kinds-kept bytes s r))
+
+-- the bounds are in range where any other record than the first may stand
+pub next-bounded : (bytes : List ℕ) (p : Progress) (o q : List ℕ) → Reached bytes (state p o q) → (kind : ℕ) → mayStand (p .last) kind ≡ true → 2 ≤ kind
+    → inRange (p .index .bounds) ≡ true
+next-bounded bytes p o q reached kind h k = reached .bounded (omega (arith, follows (p .last) kind h .high))
 
 pub passed : (bytes : List ℕ) (v : ℕ) → readTask bytes .verdict ≡ Accepted v → Passed bytes (readTask bytes .task)
 passed bytes = reading-keeps (Reached bytes) (Sound bytes) bytes (begin-reached bytes) (kinds-kept bytes)

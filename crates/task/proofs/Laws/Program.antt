@@ -4,7 +4,7 @@
 use Prim.Native.Nat.{ℕ, _+_, _*_, _/_, _%_, _≤_, _<_}
 use mathlib.Core.List.{List}
 use lib.ListN.{length}
-use mathlib.Core.Bool.{Bool, true, false, false≢true, cond}
+use mathlib.Core.Bool.{Bool, true, false, false≢true, cond, _&&_}
 use lib.Dec.{eqb, ltb}
 use borrow.Author.Tests.{lt-ltb, le-ltb, ltb-false, eq-eqb, ne-eqb, eqb-true}
 use mathlib.Core.Path.{_≡_, refl, sym, ap, _∙_}
@@ -47,17 +47,20 @@ module _ (i : Index) (presets program : List ℕ) (n : ℕ) (e : n ≡ lineCount
   unfolding programVerdict
   size-no h = simp (ne-eqb (length program) (3 * lineCount (i .bounds)) (λ (f : length program ≡ 3 * lineCount (i .bounds)). h (omega arith)))
 
-  module _ (s : length program ≡ 3 * n) (a : ℕ) (f : a ≡ firstNo (lineAllowed i program) (lineCount (i .bounds))) where
+  module _ (s : length program ≡ 3 * n) (a : ℕ) (found : a ≡ firstNo (lineAllowed i program) n) where
+    f : a ≡ firstNo (lineAllowed i program) (lineCount (i .bounds))
+    f = found ∙ ap (firstNo (lineAllowed i program)) e
+
     size-yes : eqb (length program) (3 * lineCount (i .bounds)) ≡ true
     size-yes = eq-eqb (length program) (3 * lineCount (i .bounds)) (omega arith)
 
     pub lines-no : a < n → Refused PROGRAM-LINES (3 * a) ≡ programVerdict i presets program
     unfolding programVerdict everyLine
-    lines-no h = rw f (simp (size-yes, lt-ltb (firstNo (lineAllowed i program) (lineCount (i .bounds))) (lineCount (i .bounds)) (omega arith)))
+    lines-no h = rw f (simp (size-yes, lt-ltb (firstNo (lineAllowed i program) (lineCount (i .bounds))) (lineCount (i .bounds)) (omega (arith, f))))
 
     module _ (h : n ≤ a) (k : ℕ) (g : k ≡ firstNo (presetHeld presets program) n) where
       lines-yes : ltb (firstNo (lineAllowed i program) (lineCount (i .bounds))) (lineCount (i .bounds)) ≡ false
-      lines-yes = le-ltb (firstNo (lineAllowed i program) (lineCount (i .bounds))) (lineCount (i .bounds)) (omega arith)
+      lines-yes = le-ltb (firstNo (lineAllowed i program) (lineCount (i .bounds))) (lineCount (i .bounds)) (omega (arith, f))
 
       here : k ≡ firstNo (presetHeld presets program) (lineCount (i .bounds))
       here = g ∙ ap (firstNo (presetHeld presets program)) e
@@ -74,20 +77,20 @@ module _ (i : Index) (presets program : List ℕ) (n : ℕ) (e : n ≡ lineCount
           simp (size-yes, lines-yes, le-ltb (firstNo (presetHeld presets program) (lineCount (i .bounds))) (lineCount (i .bounds)) (omega (arith, here)))
 
 -- questions 26 and 27 at one line
-pub line-test : (i : Index) (program : List ℕ) (k line : ℕ) (w : Triple) (d : Decoded) (r t : Bool) → line ≡ k % (i .bounds .last + 1)
-    → w ≡ tripleAt program (3 * k) → d ≡ decode (i .bounds) (i .actions) (record { 0 = line }) w → r ≡ isInstruction d → r ≡ t → lineAllowed i program k ≡ t
+pub line-test : (i : Index) (program : List ℕ) (k line : ℕ) (w : Triple) (r t : Bool) → line ≡ k % (i .bounds .last + 1)
+    → w ≡ tripleAt program (3 * k) → r ≡ isInstruction (decode (i .bounds) (i .actions) (record { 0 = line }) w) → r ≡ t → lineAllowed i program k ≡ t
 unfolding lineAllowed
-line-test i program k line w d r t e f g h j = rw (← f, ← e) (rw (← g) (sym h ∙ j))
+line-test i program k line w r t e f g h = rw (← f, ← e) (sym g ∙ h)
 
 module _ (presets program : List ℕ) (k op : ℕ) (e : op ≡ byteAt presets (3 * k)) where
   pub preset-none : op ≡ 0 → true ≡ presetHeld presets program k
   unfolding presetHeld tripleAt
   preset-none h = simp (eq-eqb _ _ (sym e ∙ h))
 
-  pub preset-test : (op ≡ 0 → ⊥) → (v w : Triple) (same : Bool) → v ≡ tripleAt presets (3 * k) → w ≡ tripleAt program (3 * k)
-      → same ≡ sameTriple v w → same ≡ presetHeld presets program k
-  unfolding presetHeld tripleAt
-  preset-test n v w same f g h =
+  pub preset-test : (op ≡ 0 → ⊥) → (p q : ℕ) (w : Triple) → p ≡ byteAt presets (3 * k + 1) → q ≡ byteAt presets (3 * k + 2)
+      → w ≡ tripleAt program (3 * k) → (eqb op (w .op) && eqb p (w .p) && eqb q (w .q)) ≡ presetHeld presets program k
+  unfolding presetHeld tripleAt sameTriple
+  preset-test n p q w f g h =
       let z : eqb (byteAt presets (3 * k)) 0 ≡ false = ne-eqb _ _ (λ (d : byteAt presets (3 * k) ≡ 0). n (e ∙ d)) in
       simp z (cc)
 

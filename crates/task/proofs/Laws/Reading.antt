@@ -1,38 +1,40 @@
--- One record of a task file: what its answers lead to, kind by kind, as the reader's outcome says it.
+-- One record of a task file: what its answers lead to, kind by kind, as the reader's own answer says it.
 -- Assumes nothing.
-use Prim.Native.Nat.{ℕ, _+_, _/_, _≤_, _<_}
-use mathlib.Core.Path.{_≡_, refl, sym, _∙_}
+use Prim.Native.Nat.{ℕ, _+_, _/_, _^_, _≤_, _<_}
+use mathlib.Core.Path.{_≡_, refl, sym, ap, _∙_}
 use mathlib.Core.Bool.{Bool, true, false, cond, _&&_}
 use mathlib.Core.List.{List}
 use native.Mathlib.Omega.{arith}
 use lib.ListN.{length, set}
-use lib.Dec.{eqb, ltb}
+use lib.Dec.{eqb, leb, ltb}
 use borrow.Author.Tests.{lt-ltb, le-ltb, eq-eqb, ne-eqb, eqb-true}
 use Rattle.records.specs.Loop.{Turn}
 use Rattle.records.specs.Numbers.{byteAt, eightAt, u64At}
 use Rattle.records.specs.Record.{recordAt}
 use Rattle.records.specs.declared.record.Found.{Found}
-use Rattle.records.specs.declared.record.Found.the-variants.{Record, Missing}
+use Rattle.records.specs.declared.record.Found.the-variants.{Record}
 use Rattle.records.proofs.Laws.Loop.{ask-yes, ask-no}
 use Rattle.records.proofs.Laws.Numbers.{u64-there}
 use Rattle.records.proofs.Laws.Record.{record-ends}
 use Rattle.task.specs.Bounds.{boundsAt, inRange}
-use Rattle.task.specs.Facts.{literalsAt, within, consistent, pairsBeforeFault}
+use Rattle.task.specs.Facts.{literalsAt, within, Greatest, consistent, pairsBeforeFault}
 use Rattle.task.specs.Instruction.{decodeFor, encode, tripleAt, withTriple}
-use Rattle.task.specs.Program.{lineOffset}
-use Rattle.task.specs.Outcome.{state, turned}
-use Rattle.task.specs.Questions.{WHOLE, KIND, LENGTH, COUNT, BOUNDS, SETS, PRESET, REPEATED, CLOSED}
-use Rattle.task.specs.Reading.{State, mayStand, byKind, lengthFits, headerTurn, actionTurn, onPreset, presetTurn, caseTurn, closeTurn, kindTurn, onRecord, turnOf}
+use Rattle.task.specs.Program.{lineOffset, isInstruction}
+use Rattle.task.proofs.Laws.Instruction.{not-instruction, instruction-is, decoded-for}
+use Rattle.task.specs.Outcome.{state, withRecord, turned}
+use Rattle.task.specs.Questions.{KIND, LENGTH, COUNT, BOUNDS, SETS, PRESET, REPEATED, CLOSED}
+use Rattle.task.specs.Reading.{Progress, State, mayStand, byKind, lengthFits, headerTurn, actionTurn, onPreset, presetTurn, caseTurn, closeTurn, kindTurn, onRecord}
 use Rattle.task.specs.declared.bounds.Bounds.{Bounds}
 use Rattle.task.specs.declared.facts.Literals.{Literals}
+use Rattle.task.specs.declared.index.Index.{Index}
+use Rattle.task.specs.declared.instruction.Line.{Line}
+use Rattle.task.specs.declared.instruction.Proc.{Proc}
 use Rattle.task.specs.declared.instruction.Triple.{Triple}
 use Rattle.task.specs.declared.instruction.Instruction.{Instruction}
-use Rattle.task.specs.declared.instruction.Decoded.{Decoded}
-use Rattle.task.specs.declared.instruction.Decoded.the-variants.{Is, Nothing}
-use Rattle.task.specs.declared.reading.Outcome.the-variants.{Next, Refused, Closed}
-use Rattle.task.specs.declared.reading.Progress.{Progress}
+use Rattle.task.specs.declared.instruction.Decoded.the-variants.{Is}
+use Rattle.task.specs.declared.reading.Answer.{Answer}
+use Rattle.task.specs.declared.reading.Answer.the-variants.{Yes, No, Closed}
 use Rattle.task.specs.declared.reading.Reading.{Reading}
-use Rattle.task.specs.declared.reading.Section.the-variants.{Header, Actions, Presets, Cases}
 
 module _ {A : Type 0} (kind : ℕ) (header action preset case close : A) where
   pub by-header : kind ≡ 1 → header ≡ byKind kind header action preset case close
@@ -55,143 +57,201 @@ module _ {A : Type 0} (kind : ℕ) (header action preset case close : A) where
   unfolding byKind
   by-close h₁ h₂ h₃ h₄ = simp (ne-eqb kind 1 h₁, ne-eqb kind 2 h₂, ne-eqb kind 3 h₃, ne-eqb kind 4 h₄)
 
-module _ (bytes : List ℕ) (p : Progress) (body next : ℕ) (o q : List ℕ) where
-  module _ (b : Bounds) (r : Bool) (e : b ≡ boundsAt bytes body) (f : r ≡ inRange b) where
-    pub header-no : r ≡ false → turned (p .index) (Refused BOUNDS (p .at)) o q ≡ headerTurn bytes (state p o q) body next
+-- the index with a record, kind by kind
+module _ (bytes : List ℕ) (i : Index) (kind at body : ℕ) where
+  pub with-header : (b : Bounds) → b ≡ boundsAt bytes body → kind ≡ 1
+      → record { bounds = b; actions = 0; cases = 0; first = 0 } ≡ withRecord bytes i kind at body
+  unfolding withRecord
+  with-header b e h = rw e (by-header kind _ _ _ _ _ h)
+
+  pub with-action : kind ≡ 2
+      → record { bounds = i .bounds; actions = i .actions + 1; cases = i .cases; first = i .first } ≡ withRecord bytes i kind at body
+  unfolding withRecord
+  with-action h = by-action kind _ _ _ _ _ h
+
+  -- a case, the first one or a later one
+  with-case : (first : ℕ) → first ≡ cond (eqb (i .cases) 0) at (i .first) → kind ≡ 4
+      → record { bounds = i .bounds; actions = i .actions; cases = i .cases + 1; first = first } ≡ withRecord bytes i kind at body
+  unfolding withRecord
+  with-case first e h = rw e (by-case kind _ _ _ _ _ h)
+
+  module _ (j : Index) (h : kind ≡ 4) where
+    pub with-first : i .cases ≡ 0 → j ≡ record { bounds = i .bounds; actions = i .actions; cases = i .cases; first = at }
+        → record { bounds = j .bounds; actions = j .actions; cases = j .cases + 1; first = j .first } ≡ withRecord bytes i kind at body
+    with-first z e = rw e (with-case at (rw (eq-eqb (i .cases) 0 z)) h)
+
+    pub with-later : (i .cases ≡ 0 → ⊥) → j ≡ i
+        → record { bounds = j .bounds; actions = j .actions; cases = j .cases + 1; first = j .first } ≡ withRecord bytes i kind at body
+    with-later n e = rw e (with-case (i .first) (rw (ne-eqb (i .cases) 0 n)) h)
+
+  -- a preset, or the closing record
+  pub with-other : (kind ≡ 1 → ⊥) → (kind ≡ 2 → ⊥) → (kind ≡ 4 → ⊥) → i ≡ withRecord bytes i kind at body
+  unfolding withRecord byKind
+  with-other h₁ h₂ h₄ = simp (ne-eqb kind 1 h₁, ne-eqb kind 2 h₂, ne-eqb kind 4 h₄) (either (eqb kind 3))
+    where
+      either : (t : Bool) → i ≡ cond t i i
+      either true = refl
+      either false = refl
+
+module _ (bytes : List ℕ) (p : Progress) (at body next : ℕ) (o q : List ℕ) (e : p .at ≡ at) where
+  module _ (b : Bounds) (r : Bool) (f : b ≡ boundsAt bytes body) (g : r ≡ inRange b) where
+    pub header-no : r ≡ false → turned bytes p 1 body next (No BOUNDS at) o q ≡ headerTurn bytes (state p o q) body next
     unfolding turned headerTurn
-    header-no h = ask-no _ _ _ (cc)
+    header-no h = rw (← e) (ask-no _ _ _ (cc))
 
-    pub header-yes : r ≡ true
-        → turned (p .index) (Next (record { at = next; section = Header; index = record { bounds = b; actions = 0; cases = 0; first = 0 } })) o q
-        ≡ headerTurn bytes (state p o q) body next
-    unfolding turned headerTurn
-    header-yes h = rw e (ask-yes _ _ _ (cc))
+    pub header-yes : r ≡ true → turned bytes p 1 body next Yes o q ≡ headerTurn bytes (state p o q) body next
+    unfolding turned headerTurn withRecord byKind
+    header-yes h = ask-yes _ _ _ (cc)
 
-  pub action-full : (size : ℕ) → 64 ≤ p .index .actions → turned (p .index) (Refused COUNT (p .at)) o q ≡ actionTurn bytes (state p o q) body size next
-  unfolding turned actionTurn
-  action-full size h = ask-no _ _ _ (le-ltb (p .index .actions) 64 h)
-
-  module _ (size pairs : ℕ) (h : p .index .actions < 64) (e : pairs ≡ pairsBeforeFault (p .index .bounds .facts) bytes body (size / 16)) where
-    counted : ltb (p .index .actions) 64 ≡ true
-    counted = lt-ltb (p .index .actions) 64 h
-
-    pub action-no : (pairs ≡ size / 16 → ⊥) → turned (p .index) (Refused SETS (p .at)) o q ≡ actionTurn bytes (state p o q) body size next
+  module _ (size actions : ℕ) (n : p .index .actions ≡ actions) where
+    pub action-full : 64 ≤ actions → turned bytes p 2 body next (No COUNT at) o q ≡ actionTurn bytes (state p o q) body size next
     unfolding turned actionTurn
-    action-no n = ask-no _ _ _ (rw (← e) (ne-eqb pairs (size / 16) n)) ∙ ask-yes _ _ _ counted
+    action-full h = rw (← e) (ask-no _ _ _ (le-ltb (p .index .actions) 64 (omega arith)))
 
-    pub action-yes : pairs ≡ size / 16
-        → turned (p .index)
-        (Next (record { at = next; section = Actions; index = record { bounds = p .index .bounds; actions = p .index .actions + 1; cases = p .index .cases; first = p .index .first } }))
-        (set o (p .index .actions) (p .at)) q
-        ≡ actionTurn bytes (state p o q) body size next
-    unfolding turned actionTurn
-    action-yes y = ask-yes _ _ _ (rw (← e) (eq-eqb pairs (size / 16) y)) ∙ ask-yes _ _ _ counted
+    module _ (facts pairs : ℕ) (h : actions < 64) (f : p .index .bounds .facts ≡ facts)
+        (g : pairs ≡ pairsBeforeFault facts bytes body (size / 16)) where
+      counted : ltb (p .index .actions) 64 ≡ true
+      counted = lt-ltb (p .index .actions) 64 (omega arith)
 
-  module _ (procedure line : ℕ) (t : Triple) (d : Decoded)
-      (e₁ : procedure ≡ byteAt bytes body) (e₂ : line ≡ byteAt bytes (body + 1)) (e₃ : t ≡ tripleAt bytes (body + 2))
-      (e₄ : d ≡ decodeFor (p .index .bounds) (p .index .actions) (record { 0 = procedure }) (record { 0 = line }) t) where
-    on-preset : onPreset bytes (state p o q) body next d ≡ presetTurn bytes (state p o q) body next
+      found : pairs ≡ pairsBeforeFault (p .index .bounds .facts) bytes body (size / 16)
+      found = cc
+
+      pub action-no : (pairs ≡ size / 16 → ⊥) → turned bytes p 2 body next (No SETS at) o q ≡ actionTurn bytes (state p o q) body size next
+      unfolding turned actionTurn
+      action-no k = rw (← e) (ask-no _ _ _ (rw (← found) (ne-eqb pairs (size / 16) k)) ∙ ask-yes _ _ _ counted)
+
+      pub action-yes : pairs ≡ size / 16
+          → turned bytes p 2 body next Yes (set o actions at) q ≡ actionTurn bytes (state p o q) body size next
+      unfolding turned actionTurn withRecord byKind
+      action-yes y = rw (← e, ← n) (ask-yes _ _ _ (rw (← found) (eq-eqb pairs (size / 16) y)) ∙ ask-yes _ _ _ counted)
+
+  module _ (b : Bounds) (actions : ℕ) (procedure : Proc) (line : Line) (t : Triple) (r : Bool)
+      (e₁ : procedure ≡ record { 0 = byteAt bytes body }) (e₂ : line ≡ record { 0 = byteAt bytes (body + 1) })
+      (e₃ : t ≡ tripleAt bytes (body + 2)) (e₄ : p .index .bounds ≡ b) (e₅ : p .index .actions ≡ actions)
+      (e₆ : r ≡ isInstruction (decodeFor b actions procedure line t)) where
+    on-preset : onPreset bytes (state p o q) body next (decodeFor b actions procedure line t) ≡ presetTurn bytes (state p o q) body next
     unfolding presetTurn
-    on-preset = rw (e₄, e₁, e₂, e₃) refl
+    on-preset = rw (← e₄, ← e₅, e₁, e₂, e₃) refl
 
-    pub preset-no : d ≡ Nothing → turned (p .index) (Refused PRESET (p .at)) o q ≡ presetTurn bytes (state p o q) body next
+    pub preset-no : r ≡ false → turned bytes p 3 body next (No PRESET at) o q ≡ presetTurn bytes (state p o q) body next
     unfolding turned onPreset
-    preset-no h = rw h at on-preset
+    preset-no h = rw (← e) (rw (not-instruction _ (sym e₆ ∙ h)) at on-preset)
 
-    module _ (w : Instruction) (a : d ≡ Is w) (offset byte : ℕ)
-        (f : offset ≡ lineOffset (p .index .bounds) (record { 0 = procedure }) (record { 0 = line })) (g : byte ≡ byteAt q offset) where
+    module _ (offset byte : ℕ) (f : offset ≡ lineOffset b procedure line) (g : byte ≡ byteAt q offset) (y : r ≡ true) where
       here : byte ≡ byteAt q (lineOffset (p .index .bounds) (record { 0 = byteAt bytes body }) (record { 0 = byteAt bytes (body + 1) }))
       here = cc
 
-      pub preset-again : (byte ≡ 0 → ⊥) → turned (p .index) (Refused REPEATED (p .at)) o q ≡ presetTurn bytes (state p o q) body next
+      some : (w : Instruction) × (decodeFor b actions procedure line t ≡ Is w)
+      some = instruction-is _ (sym e₆ ∙ y)
+
+      pub preset-again : (byte ≡ 0 → ⊥) → turned bytes p 3 body next (No REPEATED at) o q ≡ presetTurn bytes (state p o q) body next
       unfolding turned onPreset
-      preset-again n = ask-no _ _ _ (rw (← here) (ne-eqb byte 0 n)) ∙ rw a at on-preset
+      preset-again n = rw (← e) (ask-no _ _ _ (rw (← here) (ne-eqb byte 0 n)) ∙ rw (some .1) at on-preset)
 
-      pub preset-yes : (q′ : List ℕ) → q′ ≡ withTriple q offset (encode w) → byte ≡ 0
-          → turned (p .index) (Next (record { at = next; section = Presets; index = p .index })) o q′ ≡ presetTurn bytes (state p o q) body next
-      unfolding turned onPreset
-      preset-yes q′ h z = rw (h, f, e₁, e₂) (ask-yes _ _ _ (rw (← here) (eq-eqb byte 0 z)) ∙ rw a at on-preset)
+      pub preset-yes : (q′ : List ℕ) → q′ ≡ withTriple q offset t → byte ≡ 0
+          → turned bytes p 3 body next Yes o q′ ≡ presetTurn bytes (state p o q) body next
+      unfolding turned onPreset withRecord byKind
+      preset-yes q′ h z =
+          let written : q′ ≡ withTriple q (lineOffset (p .index .bounds) (record { 0 = byteAt bytes body }) (record { 0 = byteAt bytes (body + 1) })) (encode (some .0)) =
+          cc (decoded-for b actions procedure line t (some .0) (some .1) .encodes) in
+          rw written (ask-yes _ _ _ (rw (← here) (eq-eqb byte 0 z)) ∙ rw (some .1) at on-preset)
 
-  pub case-full : 32 ≤ p .index .cases → turned (p .index) (Refused COUNT (p .at)) o q ≡ caseTurn bytes (state p o q) body next
-  unfolding turned caseTurn
-  case-full h = ask-no _ _ _ (le-ltb (p .index .cases) 32 h)
-
-  module _ (h : p .index .cases < 32) (set : ℕ) (goal : Literals) (i c : Bool) (there : body + 24 ≤ length bytes) (e₁ : set ≡ eightAt bytes body) (e₂ : goal ≡ literalsAt bytes (body + 8))
-      (e₃ : i ≡ within (p .index .bounds .facts) set) (e₄ : c ≡ consistent (p .index .bounds .facts) goal) where
-    few : ltb (p .index .cases) 32 ≡ true
-    few = lt-ltb (p .index .cases) 32 h
-
-    start : set ≡ u64At bytes body
-    start = u64-there bytes body set e₁ (omega arith)
-
-    pub case-no : (i && c) ≡ false → turned (p .index) (Refused SETS (p .at)) o q ≡ caseTurn bytes (state p o q) body next
+  module _ (cases : ℕ) (n : p .index .cases ≡ cases) where
+    pub case-full : 32 ≤ cases → turned bytes p 4 body next (No COUNT at) o q ≡ caseTurn bytes (state p o q) body next
     unfolding turned caseTurn
-    case-no n = ask-no _ _ _ (cc start) ∙ ask-yes _ _ _ few
+    case-full h = rw (← e) (ask-no _ _ _ (le-ltb (p .index .cases) 32 (omega arith)))
 
-    pub case-yes : (first : ℕ) → first ≡ cond (eqb (p .index .cases) 0) (p .at) (p .index .first) → (i && c) ≡ true
-        → turned (p .index)
-        (Next (record { at = next; section = Cases; index = record { bounds = p .index .bounds; actions = p .index .actions; cases = p .index .cases + 1; first = first } }))
-        o q
-        ≡ caseTurn bytes (state p o q) body next
-    unfolding turned caseTurn
-    case-yes first f y = rw f (ask-yes _ _ _ (cc start) ∙ ask-yes _ _ _ few)
+    module _ (facts most : ℕ) (f : p .index .bounds .facts ≡ facts) (h : cases < 32) (set : ℕ) (goal : Literals) (c : Bool) (there : body + 24 ≤ length bytes)
+        (greatest : Greatest facts most) (small : set < 2 ^ 64) (e₁ : set ≡ eightAt bytes body) (e₂ : goal ≡ literalsAt bytes (body + 8)) (e₃ : c ≡ consistent facts goal) where
+      few : ltb (p .index .cases) 32 ≡ true
+      few = lt-ltb (p .index .cases) 32 (omega arith)
+
+      sets : (leb set most && c) ≡ (within (p .index .bounds .facts) (u64At bytes body) && consistent (p .index .bounds .facts) (literalsAt bytes (body + 8)))
+      sets = cc (greatest set small, u64-there bytes body set e₁ (omega arith))
+
+      pub case-no : (leb set most && c) ≡ false → turned bytes p 4 body next (No SETS at) o q ≡ caseTurn bytes (state p o q) body next
+      unfolding turned caseTurn
+      case-no k = rw (← e) (ask-no _ _ _ (sym sets ∙ k) ∙ ask-yes _ _ _ few)
+
+      pub case-yes : (leb set most && c) ≡ true → turned bytes p 4 body next Yes o q ≡ caseTurn bytes (state p o q) body next
+      unfolding turned caseTurn withRecord byKind
+      case-yes y = ask-yes _ _ _ (sym sets ∙ y) ∙ ask-yes _ _ _ few
 
 -- a body in the file, of the length that question 3 asks of its kind
 module _ (kind body size end : ℕ) (there : body + size ≤ end) (fit : lengthFits kind size ≡ true) where
   fits : (t : Bool) → t ≡ lengthFits kind size → t ≡ true
   fits t f = f ∙ fit
 
-  pub header-there : kind ≡ 1 → body + 6 ≤ end
+  pub header-body : kind ≡ 1 → body + 6 ≤ end
   unfolding lengthFits
-  header-there h = omega (arith, eqb-true size 6 (fits _ (by-header _ _ _ _ _ _ h)))
+  header-body h = omega (arith, eqb-true size 6 (fits _ (by-header _ _ _ _ _ _ h)))
 
-  pub preset-there : kind ≡ 3 → body + 5 ≤ end
+  pub preset-body : kind ≡ 3 → body + 5 ≤ end
   unfolding lengthFits
-  preset-there h = omega (arith, eqb-true size 5 (fits _ (by-preset _ _ _ _ _ _ h)))
+  preset-body h = omega (arith, eqb-true size 5 (fits _ (by-preset _ _ _ _ _ _ h)))
 
-  pub case-there : kind ≡ 4 → body + 24 ≤ end
+  pub case-body : kind ≡ 4 → body + 24 ≤ end
   unfolding lengthFits
-  case-there h = omega (arith, eqb-true size 24 (fits _ (by-case _ _ _ _ _ _ h)))
+  case-body h = omega (arith, eqb-true size 24 (fits _ (by-case _ _ _ _ _ _ h)))
 
 -- a record's body is in the file
 pub body-there : (bytes : List ℕ) (at : ℕ) (f : Found) → f ≡ recordAt bytes at → (kind body size next : ℕ) → f ≡ Record kind body size next
     → body + size ≤ length bytes
 body-there bytes at f e kind body size next r = omega (arith, record-ends bytes at kind body size next (sym e ∙ r))
 
--- the record that `f` found at the reading's offset
-module _ (bytes : List ℕ) (p : Progress) (o q : List ℕ) (f : Found) (e : f ≡ recordAt bytes (p .at)) where
-  pub record-no : f ≡ Missing → turned (p .index) (Refused WHOLE (p .at)) o q ≡ turnOf bytes (state p o q)
-  unfolding turned turnOf onRecord
-  record-no h = rw (← e, h)
-
-  module _ (kind body size next : ℕ) (r : f ≡ Record kind body size next) where
-    on-record : onRecord bytes (state p o q) (Record kind body size next)
-        ≡ turnOf bytes (state p o q)
-    unfolding turnOf
-    on-record = rw (← e, r) refl
-
-    module _ (m : Bool) (g : m ≡ mayStand (p .section) kind) where
-      pub kind-no : m ≡ false → turned (p .index) (Refused KIND (p .at)) o q ≡ turnOf bytes (state p o q)
-      unfolding turned onRecord
-      kind-no h = ask-no _ _ _ (sym g ∙ h) ∙ on-record
-
-      module _ (y : m ≡ true) (l : Bool) (k : l ≡ lengthFits kind size) where
-        pub length-no : l ≡ false → turned (p .index) (Refused LENGTH (p .at)) o q ≡ turnOf bytes (state p o q)
-        unfolding turned onRecord
-        length-no h = ask-no _ _ _ (sym k ∙ h) ∙ ask-yes _ _ _ (sym g ∙ y) ∙ on-record
-
-        -- past questions 1 to 3 the turn is what the kind asks
-        pub kind-turn : l ≡ true → (t : Turn State Reading)
-            → t ≡ kindTurn bytes (state p o q) kind body size next
-            → t ≡ turnOf bytes (state p o q)
-        unfolding onRecord
-        kind-turn h t d = d ∙ ask-yes _ _ _ (sym k ∙ h) ∙ ask-yes _ _ _ (sym g ∙ y) ∙ on-record
-
-module _ (bytes : List ℕ) (p : Progress) (next : ℕ) (o q : List ℕ) where
-  pub close-no : (next ≡ length bytes → ⊥) → turned (p .index) (Refused CLOSED next) o q ≡ closeTurn bytes (state p o q) next
+module _ (bytes : List ℕ) (p : Progress) (body next : ℕ) (o q : List ℕ) where
+  pub close-no : (next ≡ length bytes → ⊥) → turned bytes p 5 body next (No CLOSED next) o q ≡ closeTurn bytes (state p o q) next
   unfolding turned closeTurn
   close-no h = ask-no _ _ _ (ne-eqb next (length bytes) h)
 
-  pub close-yes : next ≡ length bytes → turned (p .index) Closed o q ≡ closeTurn bytes (state p o q) next
+  pub close-yes : next ≡ length bytes → turned bytes p 5 body next Closed o q ≡ closeTurn bytes (state p o q) next
   unfolding turned closeTurn
   close-yes h = ask-yes _ _ _ (eq-eqb next (length bytes) h)
+
+-- what the kind asks, kind by kind
+module _ (bytes : List ℕ) (p : Progress) (kind body size next : ℕ) (a : Answer) (o q o′ q′ : List ℕ) where
+  abbrev Turned : ℕ → Turn State Reading
+  Turned k = turned bytes p k body next a o′ q′
+
+  module _ (k : ℕ) (e : kind ≡ k) where
+    turned-kind : (t : Turn State Reading) → Turned k ≡ t → t ≡ kindTurn bytes (state p o q) kind body size next
+        → Turned kind ≡ kindTurn bytes (state p o q) kind body size next
+    turned-kind t f g = ap Turned e ∙ f ∙ g
+
+  pub kind-header : kind ≡ 1 → Turned 1 ≡ headerTurn bytes (state p o q) body next → Turned kind ≡ kindTurn bytes (state p o q) kind body size next
+  unfolding kindTurn
+  kind-header e f = turned-kind 1 e _ f (by-header _ _ _ _ _ _ e)
+
+  pub kind-action : kind ≡ 2 → Turned 2 ≡ actionTurn bytes (state p o q) body size next → Turned kind ≡ kindTurn bytes (state p o q) kind body size next
+  unfolding kindTurn
+  kind-action e f = turned-kind 2 e _ f (by-action _ _ _ _ _ _ e)
+
+  pub kind-preset : kind ≡ 3 → Turned 3 ≡ presetTurn bytes (state p o q) body next → Turned kind ≡ kindTurn bytes (state p o q) kind body size next
+  unfolding kindTurn
+  kind-preset e f = turned-kind 3 e _ f (by-preset _ _ _ _ _ _ e)
+
+  pub kind-case : kind ≡ 4 → Turned 4 ≡ caseTurn bytes (state p o q) body next → Turned kind ≡ kindTurn bytes (state p o q) kind body size next
+  unfolding kindTurn
+  kind-case e f = turned-kind 4 e _ f (by-case _ _ _ _ _ _ e)
+
+  pub kind-close : (1 ≤ kind) × (kind ≤ 5) → (kind ≡ 1 → ⊥) → (kind ≡ 2 → ⊥) → (kind ≡ 3 → ⊥) → (kind ≡ 4 → ⊥)
+      → Turned 5 ≡ closeTurn bytes (state p o q) next → Turned kind ≡ kindTurn bytes (state p o q) kind body size next
+  unfolding kindTurn
+  kind-close h n₁ n₂ n₃ n₄ f = turned-kind 5 (omega arith) _ f (by-close _ _ _ _ _ _ n₁ n₂ n₃ n₄)
+
+-- questions 2 and 3 of a record
+module _ (bytes : List ℕ) (p : Progress) (kind body size next : ℕ) (o q : List ℕ) (m : Bool) (g : m ≡ mayStand (p .last) kind) where
+  pub kind-no : m ≡ false → turned bytes p kind body next (No KIND (p .at)) o q ≡ onRecord bytes (state p o q) (Record kind body size next)
+  unfolding turned onRecord
+  kind-no h = ask-no _ _ _ (sym g ∙ h)
+
+  module _ (y : m ≡ true) (l : Bool) (k : l ≡ lengthFits kind size) where
+    pub length-no : l ≡ false → turned bytes p kind body next (No LENGTH (p .at)) o q ≡ onRecord bytes (state p o q) (Record kind body size next)
+    unfolding turned onRecord
+    length-no h = ask-no _ _ _ (sym k ∙ h) ∙ ask-yes _ _ _ (sym g ∙ y)
+
+    -- past questions 2 and 3 the turn is what the kind asks
+    pub kind-turn : l ≡ true → (t : Turn State Reading) → t ≡ kindTurn bytes (state p o q) kind body size next
+        → t ≡ onRecord bytes (state p o q) (Record kind body size next)
+    unfolding onRecord
+    kind-turn h t d = d ∙ ask-yes _ _ _ (sym k ∙ h) ∙ ask-yes _ _ _ (sym g ∙ y)

@@ -1,7 +1,7 @@
 -- The reading of a task file, turn by turn. A turn that goes on goes to the next record, which begins after this one, so the bytes left
 -- grow fewer and the loop's law applies: what is read from here on is one turn, and then what is read from there on.
 -- Assumes nothing.
-use Prim.Native.Nat.{ℕ, _-_, _<_}
+use Prim.Native.Nat.{ℕ, _<_}
 use mathlib.Core.Path.{_≡_, refl, sym, ap, _∙_}
 use mathlib.Core.Bool.{Bool, true, false, cond}
 use mathlib.Core.List.{List}
@@ -14,20 +14,24 @@ use Rattle.records.specs.declared.record.Found.{Found}
 use Rattle.records.specs.declared.record.Found.the-variants.{Record, Missing}
 use Rattle.records.proofs.Laws.Loop.{stop-go, unroll}
 use Rattle.records.proofs.Laws.Record.{record-ends}
-use Rattle.task.specs.Outcome.{state, turned}
+use Rattle.task.specs.Outcome.{progress, state, withRecord, turned}
 use Rattle.task.specs.Questions.{WHOLE}
-use Rattle.task.specs.Reading.{State, begin, refused, accepted, byKind, headerTurn, actionTurn, onPreset, presetTurn, caseTurn, closeTurn, kindTurn, onRecord, turnOf, left, readTask}
-use Rattle.task.specs.declared.index.Index.{Index}
+use Rattle.task.specs.Reading.{Progress, State, begin, refused, accepted, byKind, lengthFits, headerTurn, actionTurn, onPreset, presetTurn, caseTurn, closeTurn, kindTurn, onRecord, turnOf, left, readTask}
 use Rattle.task.specs.declared.instruction.Decoded.{Decoded}
 use Rattle.task.specs.declared.instruction.Decoded.the-variants.{Is, Nothing}
-use Rattle.task.specs.declared.reading.Outcome.{Outcome}
-use Rattle.task.specs.declared.reading.Outcome.the-variants.{Next, Refused, Closed}
-use Rattle.task.specs.declared.reading.Progress.{Progress}
+use Rattle.task.specs.declared.reading.Answer.{Answer}
+use Rattle.task.specs.declared.reading.Answer.the-variants.{Yes, No, Closed}
 use Rattle.task.specs.declared.reading.Reading.{Reading}
 
 -- a turn that goes on goes to the offset `next`
 abbrev Goes : ℕ → Turn State Reading → Type 0
 Goes next turn = (t : State) → turn ≡ go t → t .progress .at ≡ next
+
+-- a question at which a turn goes on says yes
+ask-went : (t : State) (answer : Bool) (refusal : Reading) (rest : Turn State Reading) → go t ≡ ask answer refusal rest → (answer ≡ true) × (go t ≡ rest)
+unfolding ask
+ask-went t true refusal rest h = (refl, h)
+ask-went t false refusal rest h = absurd (stop-go (sym h))
 
 stop-goes : (next : ℕ) (r : Reading) → Goes next (stop r)
 stop-goes next r t e = cc
@@ -102,26 +106,46 @@ pub from-begin : (bytes : List ℕ) → from bytes begin ≡ readTask bytes
 unfolding from readTask
 from-begin bytes = refl
 
--- one record more: its outcome, with the arrays as they are then
-module _ (bytes : List ℕ) (s : State) (index : Index) (o q : List ℕ) (outcome : Outcome) (e : turned index outcome o q ≡ turnOf bytes s) where
-  pub next-falls : (p : Progress) → outcome ≡ Next p → length bytes - p .at < left bytes s
-  unfolding turned
-  next-falls p h = falls bytes s _ (sym (rw h at e))
+-- one record more: its turn
+module _ (bytes : List ℕ) (s : State) (r : from bytes s ≡ readTask bytes) where
+  step : (t : Turn State Reading) → t ≡ turnOf bytes s → after t (from bytes) ≡ readTask bytes
+  unfolding from
+  step t e = ap (λ (t : Turn State Reading). after t (from bytes)) e ∙ sym (unroll (turnOf bytes) (left bytes) (refused WHOLE 0) (falls bytes) s) ∙ r
 
-  module _ (r : from bytes s ≡ readTask bytes) where
-    step : after (turned index outcome o q) (from bytes) ≡ readTask bytes
-    unfolding from
-    step = ap (λ (t : Turn State Reading). after t (from bytes)) e ∙ sym (unroll (turnOf bytes) (left bytes) (refused WHOLE 0) (falls bytes) s) ∙ r
+  pub from-next : (t : State) → go t ≡ turnOf bytes s → from bytes t ≡ readTask bytes
+  unfolding after
+  from-next t e = step (go t) e
 
-    pub from-next : (p : Progress) → outcome ≡ Next p → from bytes (state p o q) ≡ readTask bytes
-    unfolding turned after
-    from-next p h = rw h at step
+  pub from-stop : (a : Reading) → stop a ≡ turnOf bytes s → a ≡ readTask bytes
+  unfolding after
+  from-stop a e = step (stop a) e
 
-    pub from-refused : (question place : ℕ) → outcome ≡ Refused question place → refused question place ≡ readTask bytes
-    unfolding turned after
-    from-refused question place h = rw h at step
+-- the record that `f` found at the reading's offset, and the answer to it, with the arrays as they are then
+module _ (bytes : List ℕ) (p : Progress) (o q : List ℕ) (f : Found) (e : f ≡ recordAt bytes (p .at)) where
+  pub turn-missing : f ≡ Missing → stop (refused WHOLE (p .at)) ≡ turnOf bytes (state p o q)
+  unfolding turnOf onRecord
+  turn-missing h = rw (← e, h)
 
-    pub from-closed : outcome ≡ Closed
-        → accepted (record { index = index; offsets = o; presets = q }) ≡ readTask bytes
-    unfolding turned after
-    from-closed h = rw h at step
+  module _ (kind body size next : ℕ) (r : f ≡ Record kind body size next) (a : Answer) (o′ q′ : List ℕ)
+      (t : turned bytes p kind body next a o′ q′ ≡ onRecord bytes (state p o q) (Record kind body size next)) where
+    turn-is : turned bytes p kind body next a o′ q′ ≡ turnOf bytes (state p o q)
+    unfolding turnOf
+    turn-is = rw (← e, r) t
+
+    pub turn-no : (question place : ℕ) → a ≡ No question place → stop (refused question place) ≡ turnOf bytes (state p o q)
+    unfolding turned
+    turn-no question place h = rw h at turn-is
+
+    pub turn-closed : a ≡ Closed → stop (accepted (record { index = p .index; offsets = o′; presets = q′ })) ≡ turnOf bytes (state p o q)
+    unfolding turned
+    turn-closed h = rw h at turn-is
+
+    module _ (y : a ≡ Yes) where
+      pub turn-next : go (state (progress next kind (withRecord bytes (p .index) kind (p .at) body)) o′ q′) ≡ turnOf bytes (state p o q)
+      unfolding turned
+      turn-next = rw y at turn-is
+
+      -- a record that the reading goes on behind has the length that question 3 asks
+      pub next-fits : lengthFits kind size ≡ true
+      unfolding turned onRecord
+      next-fits = ask-went _ _ _ _ (ask-went _ _ _ _ (rw y at t) .1) .0

@@ -15,7 +15,7 @@ abbrev μ-loop : tie.MeasureT-loop
 μ-loop bytes at count facts most k₀ k = count - k
 
 most-requires : tie.Need-most-requires Inv-loop μ-loop
-most-requires c κs = tt
+most-requires c κs = search needs
 
 loop-holds : tie.Need-loop-holds Inv-loop μ-loop
 loop-holds c = searching _ _

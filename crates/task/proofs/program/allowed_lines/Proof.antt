@@ -2,11 +2,10 @@
 -- procedure is counted along.
 -- Assumes nothing.
 use Prim.Native.Nat.{_+_, _-_, _%_}
-use mathlib.Core.Path.{_≡_, sym, ap, _∙_}
+use mathlib.Core.Path.{_≡_, sym}
 use native.Mathlib.Nat.{mod-eq-of-lt}
 use native.Mathlib.Omega.{arith}
 use borrow.Author.Needs.{needs}
-use Rattle.task.specs.First.{firstNo}
 use Rattle.task.specs.Program.{lineAllowed}
 use Rattle.task.proofs.Laws.First.{Searching, searching, found-yes, found-no, found-none}
 use Rattle.task.proofs.Laws.Program.{line-next, line-again, line-test}
@@ -14,31 +13,22 @@ use Rattle.task.proofs.program.allowed_lines.Statement.{statement}
 use Rattle.task.proofs.program.allowed_lines.Tie as tie
 
 abbrev Inv-loop : tie.InvT-loop
-Inv-loop index program bounds last count k₀ line₀ k line = Searching (lineAllowed index program) count k × (line ≡ k % (last + 1))
+Inv-loop index count program last k₀ line₀ k line = Searching (lineAllowed index program) count k × (line ≡ k % (last + 1))
 
 abbrev μ-loop : tie.MeasureT-loop
-μ-loop index program bounds last count k₀ line₀ k line = count - k
-
-line-count-requires : tie.Need-line-count-requires Inv-loop μ-loop
-line-count-requires c κs = tt
-
-cast-count : tie.Need-cast-count Inv-loop μ-loop
-cast-count c = search needs
+μ-loop index count program last k₀ line₀ k line = count - k
 
 loop-holds : tie.Need-loop-holds Inv-loop μ-loop
 loop-holds c = (searching _ _, sym (mod-eq-of-lt (omega arith)))
 
-mul-three-at : tie.Need-mul-three-at Inv-loop μ-loop
-mul-three-at c = search needs
+mul-triple-at : tie.Need-mul-triple-at Inv-loop μ-loop
+mul-triple-at c = search needs
 
-three-at-requires : tie.Need-three-at-requires Inv-loop μ-loop
-three-at-requires c κs = search needs
+triple-at-requires : tie.Need-triple-at-requires Inv-loop μ-loop
+triple-at-requires c κs = search needs
 
-decode-requires : tie.Need-decode-requires Inv-loop μ-loop
-decode-requires c κs = tt
-
-is-instruction-requires : tie.Need-is-instruction-requires Inv-loop μ-loop
-is-instruction-requires c κs = tt
+decodes-requires : tie.Need-decodes-requires Inv-loop μ-loop
+decodes-requires c κs = tt
 
 add-k : tie.Need-add-k Inv-loop μ-loop
 add-k c = search needs
@@ -52,13 +42,11 @@ loop-less c = search needs
 loop-again : tie.Need-loop-again Inv-loop μ-loop
 loop-again c =
     let at-if1 = c .before in
-    let at-is-instruction = at-if1 .before in
-    let at-decode = at-is-instruction .before in
-    let at-three-at = at-decode .before in
-    let at-loop-test = at-three-at .before in
+    let at-decodes = at-if1 .before in
+    let at-triple-at = at-decodes .before in
+    let at-loop-test = at-triple-at .before in
     let at-loop = at-loop-test .before in (
-      found-yes _ _ _ (at-loop .loop .inv .0) (at-loop-test .loop-test .taken)
-          (line-test _ _ _ _ _ _ _ _ (at-loop .loop .inv .1) (at-three-at .three-at .ensures) (at-decode .decode .ensures) (at-is-instruction .is-instruction .ensures) (at-if1 .if1 .taken)),
+      found-yes _ _ _ (at-loop .loop .inv .0) (at-loop-test .loop-test .taken) (line-test _ _ _ _ _ _ _ (at-loop .loop .inv .1) (at-triple-at .triple-at .ensures) (at-decodes .decodes .ensures) (at-if1 .if1 .taken)),
       line-next _ _ _ (at-loop .loop .inv .1) (c .if2 .taken),
     )
 
@@ -68,30 +56,26 @@ loop-less-2 c = search needs
 loop-again-2 : tie.Need-loop-again-2 Inv-loop μ-loop
 loop-again-2 c =
     let at-if1 = c .before in
-    let at-is-instruction = at-if1 .before in
-    let at-decode = at-is-instruction .before in
-    let at-three-at = at-decode .before in
-    let at-loop-test = at-three-at .before in
+    let at-decodes = at-if1 .before in
+    let at-triple-at = at-decodes .before in
+    let at-loop-test = at-triple-at .before in
     let at-loop = at-loop-test .before in (
-      found-yes _ _ _ (at-loop .loop .inv .0) (at-loop-test .loop-test .taken)
-          (line-test _ _ _ _ _ _ _ _ (at-loop .loop .inv .1) (at-three-at .three-at .ensures) (at-decode .decode .ensures) (at-is-instruction .is-instruction .ensures) (at-if1 .if1 .taken)),
+      found-yes _ _ _ (at-loop .loop .inv .0) (at-loop-test .loop-test .taken) (line-test _ _ _ _ _ _ _ (at-loop .loop .inv .1) (at-triple-at .triple-at .ensures) (at-decodes .decodes .ensures) (at-if1 .if1 .taken)),
       line-again _ _ _ (at-loop .loop .inv .1) (c .if2 .left),
     )
 
 returns : tie.Need-returns Inv-loop μ-loop
 returns c =
-    let at-is-instruction = c .before in
-    let at-decode = at-is-instruction .before in
-    let at-three-at = at-decode .before in
-    let at-loop-test = at-three-at .before in
+    let at-decodes = c .before in
+    let at-triple-at = at-decodes .before in
+    let at-loop-test = at-triple-at .before in
     let at-loop = at-loop-test .before in
-    let at-line-count = at-loop .before in
-    found-no _ _ _ (at-loop .loop .inv .0) (at-loop-test .loop-test .taken) (line-test _ _ _ _ _ _ _ _ (at-loop .loop .inv .1)
-    (at-three-at .three-at .ensures) (at-decode .decode .ensures) (at-is-instruction .is-instruction .ensures) (c .if1 .left))
-    ∙ ap (firstNo _) (at-line-count .line-count .ensures)
+    found-no _ _ _ (at-loop .loop .inv .0) (at-loop-test .loop-test .taken) (line-test _ _ _ _ _ _ _ (at-loop .loop .inv .1) (at-triple-at .triple-at .ensures) (at-decodes .decodes .ensures) (c .if1 .left))
 
 returns-2 : tie.Need-returns-2 Inv-loop μ-loop
-returns-2 c = found-none _ _ _ (c .before .loop .inv .0) (c .loop-test .left) ∙ ap (firstNo _) (c .before .before .line-count .ensures)
+returns-2 c =
+    let at-loop = c .before in
+    found-none _ _ _ (at-loop .loop .inv .0) (c .loop-test .left)
 
 pub allowed-lines-spec : {M : Type 1} → statement M
 allowed-lines-spec =
@@ -99,13 +83,10 @@ allowed-lines-spec =
     (tie.spec
     Inv-loop
     μ-loop
-    line-count-requires
-    cast-count
     loop-holds
-    mul-three-at
-    three-at-requires
-    decode-requires
-    is-instruction-requires
+    mul-triple-at
+    triple-at-requires
+    decodes-requires
     add-k
     add-line
     loop-less

@@ -21,21 +21,20 @@ returns c = size-no _ _ _ _ (c .before .line-count .ensures) (omega arith)
 allowed-lines-requires : tie.Need-allowed-lines-requires
 allowed-lines-requires c κs = search needs
 
-mul-t12 : tie.Need-mul-t12
-mul-t12 c = search needs
+mul-t11 : tie.Need-mul-t11
+mul-t11 c = search needs
 
 returns-2 : tie.Need-returns-2
 returns-2 c =
     let at-allowed-lines = c .before in
     let at-line-count = at-allowed-lines .before .before in
-    lines-no _ _ _ _ (at-line-count .line-count .ensures) (omega arith) _ (at-allowed-lines .allowed-lines .ensures)
-    (c .if2 .taken)
+    lines-no _ _ _ _ (at-line-count .line-count .ensures) (omega arith) _ (at-allowed-lines .allowed-lines .ensures) (c .if2 .taken)
 
 held-presets-requires : tie.Need-held-presets-requires
 held-presets-requires c κs = search needs
 
-mul-t13 : tie.Need-mul-t13
-mul-t13 c = search needs
+mul-t12 : tie.Need-mul-t12
+mul-t12 c = search needs
 
 returns-3 : tie.Need-returns-3
 returns-3 c =
@@ -43,8 +42,7 @@ returns-3 c =
     let at-if2 = at-held-presets .before in
     let at-allowed-lines = at-if2 .before in
     let at-line-count = at-allowed-lines .before .before in
-    presets-no _ _ _ _ (at-line-count .line-count .ensures) (omega arith) _ (at-allowed-lines .allowed-lines .ensures)
-    (at-if2 .if2 .left) _ (at-held-presets .held-presets .ensures) (c .if3 .taken)
+    presets-no _ _ _ _ (at-line-count .line-count .ensures) (omega arith) _ (at-allowed-lines .allowed-lines .ensures) (at-if2 .if2 .left) _ (at-held-presets .held-presets .ensures) (c .if3 .taken)
 
 returns-4 : tie.Need-returns-4
 returns-4 c =
@@ -52,8 +50,7 @@ returns-4 c =
     let at-if2 = at-held-presets .before in
     let at-allowed-lines = at-if2 .before in
     let at-line-count = at-allowed-lines .before .before in
-    program-good _ _ _ _ (at-line-count .line-count .ensures) (omega arith) _ (at-allowed-lines .allowed-lines .ensures)
-    (at-if2 .if2 .left) _ (at-held-presets .held-presets .ensures) (c .if3 .left)
+    program-good _ _ _ _ (at-line-count .line-count .ensures) (omega arith) _ (at-allowed-lines .allowed-lines .ensures) (at-if2 .if2 .left) _ (at-held-presets .held-presets .ensures) (c .if3 .left)
 
 pub check-program-spec : {M : Type 1} → statement M
 check-program-spec =
@@ -64,9 +61,9 @@ check-program-spec =
     mul-if1
     returns
     allowed-lines-requires
-    mul-t12
+    mul-t11
     returns-2
     held-presets-requires
-    mul-t13
+    mul-t12
     returns-3
     returns-4)

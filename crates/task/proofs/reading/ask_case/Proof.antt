@@ -1,0 +1,58 @@
+-- `task::reading::ask_case` meets its contract: questions 4 and 6 decide.
+-- Assumes nothing.
+use borrow.Author.Needs.{needs}
+use native.Mathlib.Omega.{arith}
+use Rattle.task.proofs.Laws.Reading.{case-full, case-no, case-yes}
+use Rattle.task.proofs.reading.ask_case.Statement.{statement}
+use Rattle.task.proofs.reading.ask_case.Tie as tie
+
+returns : tie.Need-returns
+returns c = λ p next o q e f n. case-full _ p _ _ next o q e _ n (c .if1 .taken)
+
+most-requires : tie.Need-most-requires
+most-requires c κs = search needs
+
+eight-at-requires : tie.Need-eight-at-requires
+eight-at-requires c κs = search needs
+
+add-literals-at : tie.Need-add-literals-at
+add-literals-at c = search needs
+
+literals-at-requires : tie.Need-literals-at-requires
+literals-at-requires c κs = search needs
+
+consistent-to-requires : tie.Need-consistent-to-requires
+consistent-to-requires c κs = tt
+
+returns-2 : tie.Need-returns-2
+returns-2 c =
+    let at-consistent-to = c .before in
+    let at-literals-at = at-consistent-to .before in
+    let at-eight-at = at-literals-at .before in
+    let at-most = at-eight-at .before in
+    let at-start = at-most .before .before .before in
+    λ p next o q e f n. case-yes _ p _ _ next o q e _ n _ _ f (omega arith) _ _ _ (at-start .pre .0) (at-most .most .ensures) (search needs) (at-eight-at .eight-at .ensures) (at-literals-at .literals-at .ensures)
+    (at-consistent-to .consistent-to .ensures _ (at-most .most .ensures)) (c .if2 .taken)
+
+returns-3 : tie.Need-returns-3
+returns-3 c =
+    let at-consistent-to = c .before in
+    let at-literals-at = at-consistent-to .before in
+    let at-eight-at = at-literals-at .before in
+    let at-most = at-eight-at .before in
+    let at-start = at-most .before .before .before in
+    λ p next o q e f n. case-no _ p _ _ next o q e _ n _ _ f (omega arith) _ _ _ (at-start .pre .0) (at-most .most .ensures) (search needs) (at-eight-at .eight-at .ensures) (at-literals-at .literals-at .ensures)
+    (at-consistent-to .consistent-to .ensures _ (at-most .most .ensures)) (c .if2 .left)
+
+pub ask-case-spec : {M : Type 1} → statement M
+ask-case-spec =
+    tie.close
+    (tie.spec
+    returns
+    most-requires
+    eight-at-requires
+    add-literals-at
+    literals-at-requires
+    consistent-to-requires
+    returns-2
+    returns-3)
