@@ -1,11 +1,10 @@
 -- The laws of the definitions in specs/, each in a file with the definition's name. Answers has what the tests of one step lead to, Kept
--- that a step keeps a possible position possible, Lent a position in memory, for the proofs by hand.
+-- that a step keeps a possible position possible.
 pub mod Answers
 pub mod Effects
 pub mod Facts
 pub mod Head
 pub mod Kept
-pub mod Lent
 pub mod Moved
 pub mod Perform
 pub mod Possible

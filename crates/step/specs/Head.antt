@@ -1,12 +1,12 @@
--- The head of a position, what of it the checker and the writer keep while they run: all but the frames below the top one. Before each step they
--- keep `callerOf` beside it, at its depth; with that its moves are those of the position (law `moved-stands`). Only contracts of functions below the
--- entries cite this.
+-- The head of a position: all of it but the frames below the top one. The checker and the writer keep it while they run, and before each step
+-- `callerOf` beside it, at its depth; with that its moves are those of the position (law `moved-stands`). The single step takes it from a position
+-- and stores it there after its move (law `moved-stored`). Only contracts of functions below the entries cite this.
 use Prim.Native.Nat.{ℕ, _+_, _-_, _≤_, _<_}
 use mathlib.Core.Path.{_≡_}
 use mathlib.Core.List.{List}
 use mathlib.Core.Bool.{cond}
 use lib.Dec.{ltb}
-use lib.ListN.{length, getD}
+use lib.ListN.{length, getD, set}
 use Rattle.task.specs.Index.{caseAt}
 use Rattle.task.specs.declared.index.Index.{Index}
 use Rattle.task.specs.declared.instruction.Instruction.{Instruction}
@@ -28,12 +28,39 @@ placed h depth f =
 unfoldable pub startingHead : ℕ → Head
 startingHead start = record { facts = start; steps = 0; case = 0; depth = 1; procedure = record { 0 = 0 }; line = record { 0 = 0 } }
 
+-- the head of a position
+unfoldable pub headOf : Position → Head
+headOf s =
+    record {
+      facts = s .facts;
+      steps = s .steps;
+      case = s .case;
+      depth = s .depth;
+      procedure = top s .procedure;
+      line = top s .line;
+    }
+
 -- the top frame, and the one to come back to after a call: the next line
 unfoldable pub topOf : Head → Frame
 topOf h = record { procedure = h .procedure; line = h .line }
 
 unfoldable pub callerOf : Head → Frame
 callerOf h = record { procedure = h .procedure; line = record { 0 = h .line .0 + 1 } }
+
+-- the frame that a head leaves behind in a position when it moves to a depth: a call's own, to come back to, else a freed one, (0, 0)
+unfoldable pub leftBy : Head → ℕ → Frame
+leftBy h depth = cond (ltb (h .depth) depth) (callerOf h) origin
+
+-- a position after its head has moved: the frame that is left behind, and then the new top one
+unfoldable pub stored : Head → Head → Position → Position
+stored before h s =
+    record {
+      facts = h .facts;
+      steps = h .steps;
+      case = h .case;
+      depth = h .depth;
+      frames = set (set (s .frames) (before .depth - 1) (leftBy before (h .depth))) (h .depth - 1) (topOf h);
+    }
 
 -- the moves; the caller's grown line is in the frame kept beside the head, and a pop is given the frame below
 unfoldable pub jumpedHead : Head → Line → Head
@@ -51,13 +78,15 @@ poppedHead h below = placed h (h .depth - 1) below
 unfoldable pub headWith : Head → ℕ → Head
 headWith h facts = record { facts = facts; steps = h .steps; case = h .case; depth = h .depth; procedure = h .procedure; line = h .line }
 
+abbrev pub caseHead : Head → ℕ → ℕ → Head
+caseHead h depth facts =
+    record { facts = facts; steps = h .steps; case = h .case + 1; depth = depth; procedure = record { 0 = 0 }; line = record { 0 = 0 } }
+
 unfoldable pub nextHead : Head → ℕ → Head
-nextHead h start =
-    record { facts = start; steps = h .steps; case = h .case + 1; depth = 1; procedure = record { 0 = 0 }; line = record { 0 = 0 } }
+nextHead h start = caseHead h 1 start
 
 unfoldable pub finishedHead : Head → Head
-finishedHead h =
-    record { facts = h .facts; steps = h .steps; case = h .case + 1; depth = 0; procedure = record { 0 = 0 }; line = record { 0 = 0 } }
+finishedHead h = caseHead h 0 (h .facts)
 
 unfoldable pub countedHead : Head → Head
 countedHead h =

@@ -1,6 +1,6 @@
 -- What the functions below the entries require, so that no index, sum or shift leaves its type. The questions that come before them give it:
--- 1 to 9 the task's bounds, and that its actions and cases are there, 31 the position's ranges, 14 the steps', 21 the room for a frame, and decoding
--- the instruction's.
+-- 1 to 9 the task's bounds, and that its actions and cases are there, 25 to 27 that each line holds an instruction, 31 the position's ranges, 14 the
+-- steps', and 21 the room for a frame.
 use Prim.Native.Nat.{ℕ, _+_, _*_, _≤_, _<_}
 use mathlib.Core.Path.{_≡_}
 use mathlib.Core.Bool.{true}
@@ -8,11 +8,13 @@ use mathlib.Core.List.{List}
 use lib.ListN.{length, getD}
 use Rattle.task.specs.Bounds.{inRange}
 use Rattle.task.specs.Index.{actionAt}
-use Rattle.task.specs.Instruction.{allowed}
+use Rattle.task.specs.Program.{instructionOn, programVerdict}
 use Rattle.task.specs.declared.index.Index.{Index}
 use Rattle.task.specs.declared.instruction.Instruction.{Instruction}
 use Rattle.task.specs.declared.instruction.Instruction.the-variants.{Act, Call}
+use Rattle.task.specs.declared.instruction.Decoded.the-variants.{Is}
 use Rattle.task.specs.declared.instruction.Proc.{Proc}
+use Rattle.task.specs.declared.verdict.Verdict.the-variants.{Accepted}
 use Rattle.step.specs.Position.{top}
 use Rattle.step.specs.Possible.{possible}
 use Rattle.step.specs.declared.position.Position.{Position}
@@ -29,28 +31,26 @@ pub record Held (bytes : List ℕ) (i : Index) (offsets : List ℕ) : Type 0 whe
   pub action : (a : ℕ) → a < i .actions → getD offsets a 0 + (20 + 32 * actionAt bytes (getD offsets a 0) .effects) ≤ length bytes
   pub case : i .first + 28 * i .cases ≤ length bytes
 
--- a position with a frame, whose steps can grow
-pub record Framed (s : Position) : Type 0 where
-  pub above : 0 < s .depth
-  pub below : s .depth ≤ 16
-  pub steps : s .steps < 65535
-
--- one whose top line can grow as well
-pub record Movable (s : Position) : Type 0 where
-  pub framed : Framed s
-  pub line : top s .line .0 < 255
-
 -- a possible position of such a task, and not the finish
 pub record Open (i : Index) (s : Position) : Type 0 where
   pub task : Bounded i
   pub possible : possible i s ≡ true
   pub unfinished : 0 < s .depth
 
--- one at which fewer than S steps are done, and the instruction is allowed on the top frame's line
-pub record Ready (i : Index) (s : Position) (w : Instruction) : Type 0 where
+-- a program that questions 25 to 27 let pass
+pub record Lined (i : Index) (program : List ℕ) : Type 0 where
+  pub presets : List ℕ
+  pub value : ℕ
+  pub passes : programVerdict i presets program ≡ Accepted value
+
+-- a position at which such a program runs
+pub record Runs (i : Index) (program : List ℕ) (s : Position) : Type 0 where
   pub standing : Open i s
-  pub left : s .steps < i .bounds .steps
-  pub allowed : allowed (i .bounds) (i .actions) (top s .line) w ≡ true
+  pub lined : Lined i program
+
+-- the instruction on a position's line
+abbrev pub OnLine : Index → List ℕ → Position → Instruction → Type 0
+OnLine i program s w = instructionOn i program (top s .procedure) (top s .line) ≡ Is w
 
 -- an act names one of the task's actions
 abbrev pub Known : Index → Instruction → Type 0
@@ -59,3 +59,8 @@ Known i w = (action : ℕ) → w ≡ Act action → action < i .actions
 -- room for a call's frame: question 21 said yes
 abbrev pub Room : Index → ℕ → Instruction → Type 0
 Room i depth w = (procedure : Proc) → w ≡ Call procedure → depth < i .bounds .stack
+
+-- one whose instruction no question turns down: fewer than S steps are done, and a call has room for its frame
+pub record Movable (i : Index) (program : List ℕ) (s : Position) : Type 0 where
+  pub left : s .steps < i .bounds .steps
+  pub room : (w : Instruction) → OnLine i program s w → Room i (s .depth) w

@@ -1,7 +1,10 @@
 // What the checker and the writer keep of a position while they run: all but the frames below the top one, which are kept in an array
-// beside it, each at the depth at which it called. So a step copies no stack.
+// beside it, each at the depth at which it called. So a step copies no stack. The single step takes it from a position, and stores it there.
 use crate::facts::has;
 use crate::position::Frame;
+use crate::position::Position;
+use crate::position::frame_at;
+use crate::position::with_frame;
 use task::index::Index;
 use task::index::case_at;
 use task::instruction::Instruction;
@@ -10,7 +13,7 @@ use task::instruction::Proc;
 ghost use mathlib.Core.Path.{_≡_};
 ghost use Prim.Native.Nat.{_+_, _*_, _≤_, _<_};
 ghost use lib.ListN.{length};
-ghost use Rattle.step.specs.Head.{startingHead, topOf, callerOf, jumpedHead, advancedHead, pushedHead, poppedHead, headWith, nextHead, finishedHead, countedHead, gotoHead, endedHead, movedHead, Fits};
+ghost use Rattle.step.specs.Head.{headOf, stored, leftBy, startingHead, topOf, callerOf, jumpedHead, advancedHead, pushedHead, poppedHead, headWith, caseHead, countedHead, gotoHead, endedHead, movedHead, Fits};
 
 // A position without the frames below its top one. The facts stand last, so that the compiler keeps each field as a value of its own.
 pub struct Head {
@@ -34,6 +37,55 @@ impl Head {
             depth: 1,
             procedure: Proc(0),
             line: Line(0),
+        }
+    }
+
+    // The head of a position.
+    pub(crate) fn of(position: Position) -> Head
+        requires { ⌜ position .depth ≤ 16 ⌝ }
+        ensures { λ r. ⌜ r ≡ headOf position ⌝ }
+    {
+        let top = frame_at(position, position.depth);
+        let procedure = top.procedure;
+        let line = top.line;
+        Head {
+            facts: position.facts,
+            steps: position.steps,
+            case: position.case,
+            depth: position.depth,
+            procedure,
+            line,
+        }
+    }
+
+    // The frame that a move to a depth leaves behind: a call's own to come back to, else a freed one, (0, 0).
+    pub(crate) fn left(self, depth: u8) -> Frame
+        requires { ⌜ self .line .0 < 255 ⌝ }
+        ensures { λ r. ⌜ r ≡ leftBy self depth ⌝ }
+    {
+        if self.depth < depth {
+            return self.caller();
+        }
+        Frame {
+            procedure: Proc(0),
+            line: Line(0),
+        }
+    }
+
+    // The position after a move to this head from another: the frame that is left behind, and the top one.
+    pub(crate) fn stored(self, before: Head, position: Position) -> Position
+        requires { ⌜ (self .depth ≤ 16) × (before .depth ≤ 16) × (before .line .0 < 255) ⌝ }
+        ensures { λ r. ⌜ r ≡ stored before self position ⌝ }
+    {
+        let frames = position.frames;
+        let left = with_frame(frames, before.depth, before.left(self.depth));
+        let frames = with_frame(left, self.depth, self.top());
+        Position {
+            facts: self.facts,
+            steps: self.steps,
+            case: self.case,
+            depth: self.depth,
+            frames,
         }
     }
 
@@ -104,39 +156,25 @@ impl Head {
         }
     }
 
-    // The facts become others.
-    fn with_facts(mut self, facts: u64) -> Head
-        ensures { λ r. ⌜ r ≡ headWith self facts ⌝ }
+    // The facts become others, and the line grows by 1.
+    fn acted(mut self, facts: u64) -> Head
+        requires { ⌜ self .line .0 < 255 ⌝ }
+        ensures { λ r. ⌜ r ≡ headWith (advancedHead self) facts ⌝ }
     {
         self.facts = facts;
-        self
+        self.advanced()
     }
 
-    // The next case from its start.
-    fn next_case(self, start: u64) -> Head
+    // The case's number grows by 1: with one frame the next case from its start, with none the finish.
+    fn next_case(self, depth: u8, facts: u64) -> Head
         requires { ⌜ self .case < 255 ⌝ }
-        ensures { λ r. ⌜ r ≡ nextHead self start ⌝ }
+        ensures { λ r. ⌜ r ≡ caseHead self depth facts ⌝ }
     {
         Head {
-            facts: start,
+            facts,
             steps: self.steps,
             case: self.case + 1,
-            depth: 1,
-            procedure: Proc(0),
-            line: Line(0),
-        }
-    }
-
-    // After the last case: no frame, the facts as they are.
-    fn finished(self) -> Head
-        requires { ⌜ self .case < 255 ⌝ }
-        ensures { λ r. ⌜ r ≡ finishedHead self ⌝ }
-    {
-        Head {
-            facts: self.facts,
-            steps: self.steps,
-            case: self.case + 1,
-            depth: 0,
+            depth,
             procedure: Proc(0),
             line: Line(0),
         }
@@ -163,19 +201,19 @@ impl Head {
     }
 
     // End: with more than one frame a pop, else the next case or the finish.
-    fn ended(self, task: &[u8], index: Index, below: Frame) -> Head
-        requires { ⌜ (self .case < 255) × (index .first + 28 * index .cases ≤ length (now task)) ⌝ }
-        ensures { λ r. ⌜ r ≡ endedHead (now (task .entry)) index self below ⌝ }
+    fn ended(self, task: &[u8], first: usize, cases: u8, below: Frame) -> Head
+        requires { ⌜ (self .case < 255) × (first + 28 * cases ≤ length (now task)) ⌝ }
+        ensures { λ r. ⌜ ((i : Index) → i .first ≡ first → i .cases ≡ cases → r ≡ endedHead (now (task .entry)) i self below) ⌝ }
     {
         if 1 < self.depth {
             return self.popped(below);
         }
         let next = self.case + 1;
-        if next < index.cases {
-            let case = case_at(task, index.first, next);
-            return self.next_case(case.start);
+        if next < cases {
+            let case = case_at(task, first, next);
+            return self.next_case(1, case.start);
         }
-        self.finished()
+        self.next_case(0, self.facts)
     }
 
     // The head after an instruction that no question turned down, given the facts after an action and the frame below the top one.
@@ -184,11 +222,11 @@ impl Head {
         ensures { λ r. ⌜ r ≡ movedHead (now (task .entry)) index self below facts w ⌝ }
     {
         match w {
-            Instruction::Empty => self,
-            Instruction::Act(_) => self.advanced().with_facts(facts),
-            Instruction::Goto(target, fact) => self.goto(target, fact),
-            Instruction::Call(procedure) => self.pushed(procedure),
-            Instruction::End => self.ended(task, index, below),
+            Instruction::Empty => return self,
+            Instruction::Act(_) => return self.acted(facts),
+            Instruction::Goto(target, fact) => return self.goto(target, fact),
+            Instruction::Call(procedure) => return self.pushed(procedure),
+            Instruction::End => return self.ended(task, index.first, index.cases, below),
         }
     }
 }

@@ -9,7 +9,7 @@ use task::program::check_program;
 use task::reading::read_task;
 use task::verdict::Verdict;
 ghost use mathlib.Core.Path.{_≡_};
-ghost use Rattle.step.specs.Ready.{Held};
+ghost use Rattle.step.specs.Ready.{Held, Lined};
 ghost use Rattle.step.specs.Single.{stepOnce, singleStep};
 
 // The step of a task and a program that passed: question 31, the finish, one instruction.
@@ -20,7 +20,7 @@ fn step_once(
     program: &[u8],
     position: Position,
 ) -> Stepped
-    requires { ⌜ Held (now bytes) index (now offsets) ⌝ }
+    requires { ⌜ Held (now bytes) index (now offsets) × Lined index (now program) ⌝ }
     ensures { λ r. ⌜ r ≡ stepOnce (now (bytes .entry)) index (now (offsets .entry)) (now (program .entry)) position ⌝ }
 {
     if !possible(index, position) {
@@ -72,16 +72,4 @@ pub fn step_in_place(task: &[u8], program: &[u8], run: &mut Position) -> Verdict
     let stepped = single_step(task, program, *run);
     *run = stepped.position;
     stepped.verdict
-}
-
-// The same of a copy of the record: a caller with plain parameters drives `step_in_place` through it.
-pub fn step_copy(task: &[u8], program: &[u8], run: Position) -> Stepped
-    ensures { λ r. ⌜ r ≡ singleStep (now (task .entry)) (now (program .entry)) run ⌝ }
-{
-    let mut copy = run;
-    let verdict = step_in_place(task, program, &mut copy);
-    Stepped {
-        verdict,
-        position: copy,
-    }
 }

@@ -20,7 +20,7 @@ use Rattle.task.specs.declared.instruction.Proc.{Proc}
 use Rattle.task.specs.declared.instruction.Instruction.{Instruction}
 use Rattle.task.specs.declared.instruction.Instruction.the-variants.{Empty, Act, Goto, Call, End}
 use Rattle.task.specs.declared.instruction.Decoded.{Decoded}
-use Rattle.task.specs.declared.instruction.Decoded.the-variants.{Is, Nothing}
+use Rattle.task.specs.declared.instruction.Decoded.the-variants.{Is}
 use Rattle.task.specs.Program.{instructionOn}
 use Rattle.step.specs.Effects.{effectsOf, changesOf, clashFree, changed}
 use Rattle.step.specs.Facts.{holds}
@@ -135,10 +135,6 @@ module _ (bytes : List ℕ) (i : Index) (offsets program : List ℕ) (s : Positi
     on-line : performDecoded bytes i offsets s d ≡ runStep bytes i offsets program s
     unfolding runStep runLine
     on-line = rw (g, e) (ask-yes _ _ _ (lt-ltb (s .steps) (i .bounds .steps) h))
-
-    pub line-empty : d ≡ Nothing → stop EMPTY ≡ runStep bytes i offsets program s
-    unfolding performDecoded
-    line-empty k = rw k at on-line
 
     pub line-runs : (w : Instruction) → d ≡ Is w → perform bytes i offsets s w ≡ runStep bytes i offsets program s
     unfolding performDecoded

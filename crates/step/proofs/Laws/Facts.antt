@@ -3,7 +3,7 @@
 -- Assumes nothing.
 use Prim.Native.Nat.{ℕ, zero, suc, _+_, _*_, _/_, _%_, _^_, _≤_, _<_}
 use mathlib.Core.Path.{_≡_, refl, sym, ap, _∙_}
-use mathlib.Core.Bool.{Bool, true, false, cond, not, _&&_, _||_, true≢false, and-true, and-false}
+use mathlib.Core.Bool.{Bool, true, false, cond, not, _&&_, _||_, and-true, and-false}
 use native.Mathlib.Nat.{mod-lt, mod-one, mod-eq-of-lt, div-eq-of-lt, lt-of-lt-of-le, lt-of-le-of-lt, pow-suc, add-comm, add-zero}
 use native.Mathlib.Numerals.{add-one}
 use native.Mathlib.Decide.{ℕ-discrete, decLe}
@@ -108,14 +108,9 @@ set-below k (suc n) test h =
 
 -- a test that says yes at each of the first places, and a loop that finds that out
 module _ (test : ℕ → Bool) where
-  pub every-on : (k : ℕ) → every k test ≡ true → test k ≡ true → every (k + 1) test ≡ true
+  pub every-more : (k : ℕ) (a b : Bool) → a ≡ every k test → b ≡ test k → (a && b) ≡ every (k + 1) test
   unfolding every
-  every-on k h e = rw add-one (simp (h, e))
-
-  pub every-done : (n k : ℕ) → k ≤ n → n ≤ k → every k test ≡ true → true ≡ every n test
-  every-done n k a b h =
-      let e : n ≡ k = omega arith in
-      rw e (sym h)
+  every-more k a b e f = rw add-one (λ j. e j && f j)
 
   pub every-at : (n : ℕ) → every n test ≡ true → (k : ℕ) → k < n → test k ≡ true
   unfolding every
@@ -128,13 +123,6 @@ module _ (test : ℕ → Bool) where
   unfolding every
   every-all zero h = refl
   every-all (suc n) h = simp (every-all n (λ k l. h k (omega arith)), h n (omega arith))
-
-  pub every-fails : (n k : ℕ) → k < n → test k ≡ false → every n test ≡ false
-  every-fails n k l e = false-of (every n test) refl
-    where
-      false-of : (b : Bool) → every n test ≡ b → b ≡ false
-      false-of true h = absurd (true≢false (sym (every-at n h k l) ∙ e))
-      false-of false h = refl
 
 every-none : (n : ℕ) (test : ℕ → Bool) → every n (λ f. not (test f)) ≡ eqb (setOf n test) 0
 unfolding every setOf

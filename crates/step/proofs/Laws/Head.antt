@@ -1,4 +1,4 @@
--- The head of a position: its moves are those of the position that it stands for.
+-- The head of a position: its moves are those of the position that it stands for, and those of the position that it is taken from and stored in.
 -- Assumes nothing.
 use Prim.Native.Nat.{ℕ, _+_, _-_, _≤_, _<_}
 use mathlib.Core.Path.{_≡_, refl, sym, ap, subst, _∙_}
@@ -7,10 +7,10 @@ use mathlib.Core.List.{List}
 use native.Mathlib.Decide.{ℕ-discrete}
 use native.Mathlib.Omega.{arith}
 use lib.ListN.{getD, set, length-set}
-use lib.Seq.{getD-set-same, getD-set-other}
+use lib.Seq.{getD-set-same, getD-set-other, set-getD, set-set}
 use lib.Dec.{ltb}
-use borrow.Author.Tests.{lt-ltb, le-ltb, ltb-true}
-use Rattle.records.proofs.Laws.Tests.{cond-yes, cond-no}
+use borrow.Author.Tests.{lt-ltb, le-ltb, ltb-true, ltb-false}
+use Rattle.records.proofs.Laws.Tests.{cond-either, cond-yes, cond-no}
 use Rattle.task.specs.Index.{caseAt}
 use Rattle.task.specs.declared.index.Case.{Case}
 use Rattle.task.specs.declared.index.Index.{Index}
@@ -19,7 +19,7 @@ use Rattle.task.specs.declared.instruction.Instruction.the-variants.{Empty, Act
 use Rattle.task.specs.declared.instruction.Line.{Line}
 use Rattle.task.specs.declared.instruction.Proc.{Proc}
 use Rattle.step.specs.Facts.{has}
-use Rattle.step.specs.Head.{Stands, startingHead, topOf, callerOf, jumpedHead, advancedHead, pushedHead, poppedHead, headWith, nextHead, finishedHead, countedHead, gotoHead, endedHead, movedHead}
+use Rattle.step.specs.Head.{Stands, headOf, leftBy, stored, caseHead, startingHead, topOf, callerOf, jumpedHead, advancedHead, pushedHead, poppedHead, headWith, nextHead, finishedHead, countedHead, gotoHead, endedHead, movedHead}
 use Rattle.step.specs.Moved.{movedBy}
 use Rattle.step.specs.Perform.{afterCase}
 use Rattle.step.specs.Position.{origin, starting, top, jumped, advanced, pushed, popped, withFacts, nextCase, finished, counted}
@@ -27,24 +27,135 @@ use Rattle.step.specs.declared.head.Head.{Head}
 use Rattle.step.specs.declared.position.Frame.{Frame}
 use Rattle.step.specs.declared.position.Position.{Position}
 
--- an end, by the depth and the cases left
-module _ (bytes : List ℕ) (i : Index) (h : Head) (below : Frame) where
-  pub ended-pops : 1 < h .depth → (r : Head) → r ≡ poppedHead h below → r ≡ endedHead bytes i h below
-  unfolding endedHead
-  ended-pops l r e = e ∙ cond-yes _ true _ _ (sym (lt-ltb 1 (h .depth) l)) refl
+-- an end, by the depth and the cases left, of every task with this first case and so many cases
+module _ (bytes : List ℕ) (h : Head) (below : Frame) (first cases : ℕ) where
+  abbrev EndsAs : Head → Type 0
+  EndsAs r = (i : Index) → i .first ≡ first → i .cases ≡ cases → r ≡ endedHead bytes i h below
 
-  pub ended-begins : h .depth ≤ 1 → h .case + 1 < i .cases → (x : Case) → x ≡ caseAt bytes (i .first) (h .case + 1)
-      → (r : Head) → r ≡ nextHead h (x .start) → r ≡ endedHead bytes i h below
+  pub ended-pops : 1 < h .depth → (r : Head) → r ≡ poppedHead h below → EndsAs r
   unfolding endedHead
-  ended-begins l m x e r f =
-      f ∙ ap (λ (y : Case). nextHead h (y .start)) e
-      ∙ cond-yes _ true _ _ (sym (lt-ltb (h .case + 1) (i .cases) m)) refl
+  ended-pops l r e i f g = e ∙ cond-yes _ true _ _ (sym (lt-ltb 1 (h .depth) l)) refl
+
+  pub ended-begins : h .depth ≤ 1 → h .case + 1 < cases → (x : Case) → x ≡ caseAt bytes first (h .case + 1) → (r : Head) → r ≡ caseHead h 1 (x .start)
+      → EndsAs r
+  unfolding endedHead nextHead
+  ended-begins l m x e r k i f g =
+      let here : x ≡ caseAt bytes (i .first) (h .case + 1) = rw f e in
+      k ∙ ap (λ (y : Case). nextHead h (y .start)) here
+      ∙ cond-yes _ true _ _ (sym (lt-ltb (h .case + 1) (i .cases) (omega (arith, m, g)))) refl
       ∙ cond-no _ false _ _ (sym (le-ltb 1 (h .depth) l)) refl
 
-  pub ended-finishes : h .depth ≤ 1 → i .cases ≤ h .case + 1 → (r : Head) → r ≡ finishedHead h → r ≡ endedHead bytes i h below
-  unfolding endedHead
-  ended-finishes l m r f =
-      f ∙ cond-no _ false _ _ (sym (le-ltb (h .case + 1) (i .cases) m)) refl ∙ cond-no _ false _ _ (sym (le-ltb 1 (h .depth) l)) refl
+  pub ended-finishes : h .depth ≤ 1 → cases ≤ h .case + 1 → (r : Head) → r ≡ caseHead h 0 (h .facts) → EndsAs r
+  unfolding endedHead finishedHead
+  ended-finishes l m r k i f g =
+      k ∙ cond-no _ false _ _ (sym (le-ltb (h .case + 1) (i .cases) (omega (arith, m, g)))) refl ∙ cond-no _ false _ _ (sym (le-ltb 1 (h .depth) l)) refl
+
+-- a move counts nothing, and leaves at most 16 frames if a call has room for its own
+module _ (bytes : List ℕ) (i : Index) (h : Head) (below : Frame) (facts : ℕ) (d : h .depth ≤ 16) where
+  pub record Few (m : Head) : Type 0 where
+    pub steps : m .steps ≡ h .steps
+    pub depth : m .depth ≤ 16
+
+  moved-few : (w : Instruction) → ((procedure : Proc) → w ≡ Call procedure → h .depth < 16) → Few (movedHead bytes i h below facts w)
+  unfolding movedHead gotoHead endedHead jumpedHead advancedHead pushedHead poppedHead headWith nextHead finishedHead
+  moved-few Empty room = record { steps = refl; depth = d }
+  moved-few (Act action) room = record { steps = refl; depth = d }
+  moved-few (Goto target fact) room =
+      cond-either Few (has (h .facts) fact) (advancedHead h) (jumpedHead h target) (λ l. record { steps = refl; depth = d })
+      (λ l. record { steps = refl; depth = d })
+  moved-few (Call procedure) room = record { steps = refl; depth = omega (arith, room procedure refl) }
+  moved-few End room =
+      let next = nextHead h (caseAt bytes (i .first) (h .case + 1) .start) in
+      let more = ltb (h .case + 1) (i .cases) in
+      cond-either Few (ltb 1 (h .depth)) (poppedHead h below) (cond more next (finishedHead h)) (λ l. record { steps = refl; depth = omega (arith, d) })
+      (λ l. cond-either Few more next (finishedHead h) (λ m. record { steps = refl; depth = omega arith }) (λ m. record { steps = refl; depth = omega arith }))
+
+  pub moves-few : (w : Instruction) → ((procedure : Proc) → w ≡ Call procedure → h .depth < 16) → (m : Head) → m ≡ movedHead bytes i h below facts w → Few m
+  moves-few w room m e = rw e (moved-few w room)
+
+-- the head of a position with a frame moves as the position does, once it is stored there
+module _ (s : Position) (above : 0 < s .depth) where
+  abbrev StoredAs : Head → Position → Type 0
+  StoredAs h u = stored (headOf s) (countedHead h) s ≡ counted u
+
+  -- a step later, with these parts
+  abbrev later : ℕ → ℕ → ℕ → List Frame → Position
+  later facts case depth frames = record { facts = facts; steps = s .steps + 1; case = case; depth = depth; frames = frames }
+
+  -- the frame below the top one
+  abbrev under : Frame
+  under = getD (s .frames) (s .depth - 1 - 1) origin
+
+  either-stored : (b : Bool) (x y : Head) (p q : Position) → (b ≡ true → StoredAs x p) → (b ≡ false → StoredAs y q) → StoredAs (cond b x y) (cond b p q)
+  either-stored true x y p q l r = l refl
+  either-stored false x y p q l r = r refl
+
+  acted-stored : (facts : ℕ) → StoredAs (headWith (advancedHead (headOf s)) facts) (withFacts (advanced s) facts)
+  unfolding stored headOf countedHead counted headWith advancedHead callerOf topOf withFacts advanced jumped
+  acted-stored facts = ap (later facts (s .case) (s .depth)) (set-set (s .frames) (s .depth - 1) _ _)
+
+  jumped-stored : (line : Line) → StoredAs (jumpedHead (headOf s) line) (jumped s line)
+  unfolding stored headOf countedHead counted jumpedHead topOf jumped
+  jumped-stored line = ap (later (s .facts) (s .case) (s .depth)) (set-set (s .frames) (s .depth - 1) _ _)
+
+  advanced-stored : StoredAs (advancedHead (headOf s)) (advanced s)
+  unfolding headOf advancedHead jumpedHead callerOf advanced
+  advanced-stored = jumped-stored (record { 0 = top s .line .0 + 1 })
+
+  pushed-stored : (procedure : Proc) → StoredAs (pushedHead (headOf s) procedure) (pushed (advanced s) procedure)
+  unfolding stored headOf leftBy countedHead counted pushedHead callerOf topOf pushed advanced jumped
+  pushed-stored procedure =
+      let f : Frame = record { procedure = procedure; line = record { 0 = 0 } } in
+      let back : s .depth + 1 - 1 ≡ s .depth = omega arith in
+      simp (lt-ltb (s .depth) (s .depth + 1) (omega arith), back)
+
+  popped-stored : 1 < s .depth → StoredAs (poppedHead (headOf s) under) (popped s)
+  unfolding stored headOf leftBy countedHead counted poppedHead topOf popped
+  popped-stored l =
+      let n = s .depth - 1 in
+      let freed = set (s .frames) n origin in
+      let same : getD freed (n - 1) origin ≡ under = getD-set-other (s .frames) n (n - 1) origin origin (omega arith) in
+      rw (le-ltb (s .depth) n (omega arith)) (ap (later (s .facts) (s .case) n) (ap (set freed (n - 1)) (sym same) ∙ set-getD freed (n - 1) origin))
+
+  -- the end of a case, with one frame
+  module _ (one : s .depth ≤ 1) where
+    closed : (left : Frame) → set (set (s .frames) (s .depth - 1) left) 0 origin ≡ set (s .frames) 0 origin
+    closed left = let z : s .depth - 1 ≡ 0 = omega arith in rw z (set-set (s .frames) 0 left origin)
+
+    next-stored : (start : ℕ) → StoredAs (nextHead (headOf s) start) (nextCase s start)
+    unfolding stored headOf countedHead counted nextHead topOf nextCase origin
+    next-stored start = ap (later start (s .case + 1) 1) (closed _)
+
+    finished-stored : StoredAs (finishedHead (headOf s)) (finished s)
+    unfolding stored headOf countedHead counted finishedHead topOf finished origin
+    finished-stored = ap (later (s .facts) (s .case + 1) 0) (closed _)
+
+  pub moved-stored : (bytes : List ℕ) (i : Index) (facts : ℕ) (w : Instruction) → StoredAs (movedHead bytes i (headOf s) under facts w) (movedBy bytes i s facts w)
+  unfolding movedHead movedBy gotoHead endedHead afterCase headOf stored countedHead counted topOf top
+  moved-stored bytes i facts Empty =
+      ap (later (s .facts) (s .case) (s .depth)) (set-set (s .frames) (s .depth - 1) _ _ ∙ set-getD (s .frames) (s .depth - 1) origin)
+  moved-stored bytes i facts (Act action) = acted-stored facts
+  moved-stored bytes i facts (Goto target fact) =
+      either-stored (has (s .facts) fact) (advancedHead (headOf s)) (jumpedHead (headOf s) target) (advanced s) (jumped s target) (λ l. advanced-stored)
+      (λ l. jumped-stored target)
+  moved-stored bytes i facts (Call procedure) = pushed-stored procedure
+  moved-stored bytes i facts End =
+      let h = headOf s in
+      let start = caseAt bytes (i .first) (s .case + 1) .start in
+      let more = ltb (s .case + 1) (i .cases) in
+      either-stored (ltb 1 (s .depth)) (poppedHead h under) (cond more (nextHead h start) (finishedHead h)) (popped s)
+      (cond more (nextCase s start) (finished s)) (λ l. popped-stored (ltb-true 1 (s .depth) l))
+      (λ l.
+      let one = ltb-false 1 (s .depth) l in
+      either-stored more (nextHead h start) (finishedHead h) (nextCase s start) (finished s) (λ m. next-stored one start) (λ m. finished-stored one))
+
+-- the same as the code finds it out
+pub moves-stored : (s : Position) → 0 < s .depth → (bytes : List ℕ) (i : Index) (facts : ℕ) (w : Instruction) (h : Head) → h ≡ headOf s
+    → (below : Frame) → below ≡ getD (s .frames) (h .depth - 1 - 1) origin → (m : Head) → m ≡ movedHead bytes i h below facts w
+    → (n : Head) → n ≡ countedHead m → (u : Position) → u ≡ stored h n s → u ≡ counted (movedBy bytes i s facts w)
+unfolding headOf
+moves-stored s above bytes i facts w h e below f m g n k u l =
+    l ∙ rw (k, g, f, e) (moved-stored s above bytes i facts w)
 
 pub starting-stands : (start : ℕ) (callers : List Frame) → Stands (startingHead start) callers (starting 0 start)
 unfolding startingHead starting top topOf origin

@@ -64,6 +64,14 @@ module _ (b : Bounds) (s : Position) (k : ℕ) where
             simp (le-ltb k (s .depth) l, eq-eqb (f .procedure .0) 0 (u .0), eq-eqb (f .line .0) 0 (u .1))
       ]
 
+-- with a frame, a possible position's top frame is one that a program has
+pub top-used : (i : Index) (s : Position) → Parts i s → Ranges (i .bounds) → 0 < s .depth
+    → (top s .procedure .0 < i .bounds .procedures) × (top s .line .0 ≤ i .bounds .last)
+unfolding top
+top-used i s p r above =
+    let d = depth-open i s (p .depth) above in
+    fitting (i .bounds) s (s .depth - 1) (every-at _ 16 (p .frames) (s .depth - 1) (omega (arith, d))) .used (omega arith)
+
 module _ (i : Index) where
   -- a possible position with room for 16 frames
   record Sound (s : Position) : Type 0 where
@@ -119,17 +127,15 @@ module _ (i : Index) where
 
     -- the moves of a position with a frame
     module _ (r : Ranges (i .bounds)) (above : 0 < s .depth) where
+      used : (top s .procedure .0 < i .bounds .procedures) × (top s .line .0 ≤ i .bounds .last)
+      used = top-used i s (sound .parts) r above
+
       abbrev open-case : (s .case ≡ i .cases → ⊥) × (s .depth ≤ i .bounds .stack)
       open-case = depth-open i s (sound .parts .depth) above
 
-      top-used : (top s .procedure .0 < i .bounds .procedures) × (top s .line .0 ≤ i .bounds .last)
-      unfolding top
-      top-used =
-          fitting (i .bounds) s (s .depth - 1) (every-at _ 16 (sound .parts .frames) (s .depth - 1) (omega (arith, open-case))) .used (omega arith)
-
       jumped-sound : (line : Line) → line .0 ≤ i .bounds .last → Sound (jumped s line)
       unfolding jumped
-      jumped-sound line h = sets-sound (jumped s line) (s .depth - 1) _ refl (omega (arith, open-case, top-used)) refl (sound .parts .facts)
+      jumped-sound line h = sets-sound (jumped s line) (s .depth - 1) _ refl (omega (arith, open-case, used)) refl (sound .parts .facts)
 
       advanced-sound : top s .line .0 < i .bounds .last → Sound (advanced s)
       unfolding advanced
@@ -193,10 +199,9 @@ module _ (bytes : List ℕ) (t : Task) (passed : Passed bytes t) where
     move-sound (begins h k l) a = next-sound i s sound r above _ h l (passed .case (s .case + 1) l .0)
     move-sound (finishes h k l) a = finished-sound i s sound r above h l
 
-  -- with a frame, a possible position's top frame is one that a program has
   pub top-possible : (s : Position) → possible (t .index) s ≡ true → 0 < s .depth → length (s .frames) ≡ 16
       → (top s .procedure .0 < t .index .bounds .procedures) × (top s .line .0 ≤ t .index .bounds .last)
-  top-possible s h above room = top-used i s (record { parts = parts i s h; room = room }) r above
+  top-possible s h above room = top-used i s (parts i s h) r above
 
   -- an instruction that is allowed on the top frame's line keeps a possible position possible
   pub step-possible : (s : Position) → possible (t .index) s ≡ true → 0 < s .depth → s .steps < t .index .bounds .steps → length (s .frames) ≡ 16

@@ -66,25 +66,25 @@ returns-4 c =
 returns-5 : tie.Need-returns-5
 returns-5 c =
     let e = c .before .enum-told4 .given .1 in
-    (λ s x y z. rw e (c .end .ensures .0 s x y z) ∙ performs-end _ _ _ _ _ e, λ other. c .end .ensures .1)
+    (λ s x y z. rw e (c .end .ensures .0 _ s refl x y z) ∙ performs-end _ _ _ _ _ e, λ other. c .end .ensures .1)
 
 pub ask-spec : {M : Type 1} → statement M
 ask-spec =
     tie.close
     (tie.spec
     enum-told
+    returns
     enum-known-w
     cast-act
     mul-act
     element-copy-out-act
     act-requires
+    returns-2
     enum-told-2
+    returns-3
     enum-told-3
     call-requires
+    returns-4
     enum-told-4
     end-requires
-    returns
-    returns-2
-    returns-3
-    returns-4
     returns-5)

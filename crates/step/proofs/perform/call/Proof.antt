@@ -9,7 +9,7 @@ use Rattle.step.proofs.perform.call.Tie as tie
 
 returns : tie.Need-returns
 unfolding Keeps
-returns c = (call-refused _ _ (c .if1 .taken), tt)
+returns c = (call-refused _ _ (omega (arith, c .if1 .taken)), tt)
 
 returns-2 : tie.Need-returns-2
 unfolding Keeps

@@ -11,7 +11,7 @@ use Rattle.step.proofs.perform.end.Tie as tie
 
 returns : tie.Need-returns
 unfolding Keeps
-returns c = (end-pops _ _ _ _ _ (c .if1 .taken), refl)
+returns c = (λ i s e. end-pops _ i _ _ _ (c .if1 .taken) s, refl)
 
 case-at-requires : tie.Need-case-at-requires
 case-at-requires c κs = search needs
@@ -25,7 +25,7 @@ returns-2 c =
     let at-holds = c .before in
     let at-case-at = at-holds .before .before in
     let at-if1 = at-case-at .before in
-    (end-refused _ _ _ _ _ (omega (arith, at-if1 .if1 .left)) _ (at-case-at .case-at .ensures) _ (at-holds .holds .ensures) (not-true _ (c .if2 .taken)), tt)
+    (λ i s e. end-refused _ i _ _ _ (omega (arith, at-if1 .if1 .left)) (at-case-at .case-at .result) (rw e (at-case-at .case-at .ensures)) _ (at-holds .holds .ensures) (not-true _ (c .if2 .taken)) s, tt)
 
 returns-3 : tie.Need-returns-3
 unfolding Keeps
@@ -33,7 +33,7 @@ returns-3 c =
     let at-holds = c .before in
     let at-case-at = at-holds .before .before in
     let at-if1 = at-case-at .before in
-    (end-closes _ _ _ _ _ (omega (arith, at-if1 .if1 .left)) _ (at-case-at .case-at .ensures) _ (at-holds .holds .ensures) (not-false _ (c .if2 .left)), refl)
+    (λ i s e. end-closes _ i _ _ _ (omega (arith, at-if1 .if1 .left)) (at-case-at .case-at .result) (rw e (at-case-at .case-at .ensures)) _ (at-holds .holds .ensures) (not-false _ (c .if2 .left)) s, refl)
 
 pub end-spec : {M : Type 1} → statement M
 end-spec = tie.close (tie.spec returns case-at-requires holds-requires returns-2 returns-3)

@@ -1,94 +1,96 @@
--- `step::perform::moved` meets its contract: instruction by instruction.
+-- `step::perform::moved` meets its contract: the head moves as the position does, once it is stored there.
 -- Assumes nothing.
-use mathlib.Core.Path.{refl}
+use mathlib.Core.Path.{_≡_, ap}
 use native.Mathlib.Omega.{arith}
-use Rattle.step.specs.Moved.{movedBy}
-use Rattle.step.specs.Position.{advanced, jumped, pushed}
-use Rattle.step.proofs.Laws.Ready.{open-case, ready-framed, ready-act, ready-goto, ready-call}
-use borrow.Author.Needs.{needs}
+use Rattle.step.specs.Head.{headOf, topOf, countedHead}
+use Rattle.step.specs.declared.head.Head.{Head}
+use Rattle.step.proofs.Laws.Head.{moves-few, moves-stored}
+use Rattle.step.proofs.Laws.Ready.{open-depth, runs-line, head-on, head-fits, head-room}
 use Rattle.step.proofs.perform.moved.Statement.{statement}
 use Rattle.step.proofs.perform.moved.Tie as tie
 
-enum-told : tie.Need-enum-told
-enum-told c = search needs
+of-requires : tie.Need-of-requires
+of-requires c κs = open-depth _ _ (c .before .before .pre .0 .standing)
 
-enum-told-2 : tie.Need-enum-told-2
-enum-told-2 c = search needs
+line-instruction-requires : tie.Need-line-instruction-requires
+unfolding headOf topOf
+line-instruction-requires c κs = runs-line _ _ _ (c .before .before .before .pre .0) _ (ap topOf (c .of .ensures))
 
-advanced-requires : tie.Need-advanced-requires
-advanced-requires c κs =
-    let movable = ready-act _ _ _ (c .before .before .before .pre .0) _ (c .enum-told2 .given .1) .0 in
-    (movable .framed .above, movable .framed .below, movable .line)
+sub-frame-at : tie.Need-sub-frame-at
+sub-frame-at c =
+    let at-of = c .before .before in
+    let start = at-of .before .before .before in
+    let a = start .args in
+    let pre = start .pre in
+    head-fits (a .index) (a .position) (a .program .now) (pre .0) (pre .1) _ (at-of .of .ensures) _ (c .before .line-instruction .ensures) .above
 
-with-facts-requires : tie.Need-with-facts-requires
-with-facts-requires c κs = search needs
+frame-at-requires : tie.Need-frame-at-requires
+frame-at-requires c κs =
+    let at-of = c .before .before in
+    let start = at-of .before .before .before in
+    let a = start .args in
+    let pre = start .pre in
+    omega (arith, head-fits (a .index) (a .position) (a .program .now) (pre .0) (pre .1) _ (at-of .of .ensures) _ (c .before .line-instruction .ensures) .depth)
 
-enum-known-w : tie.Need-enum-known-w
-enum-known-w c = search needs
+moved-requires : tie.Need-moved-requires
+moved-requires c κs =
+    let at-line = c .before .before in
+    let at-of = at-line .before in
+    let start = at-of .before .before .before in
+    let a = start .args in
+    let pre = start .pre in
+    (head-fits (a .index) (a .position) (a .program .now) (pre .0) (pre .1) _ (at-of .of .ensures) _ (at-line .line-instruction .ensures), pre .2)
 
-goto-requires : tie.Need-goto-requires
-goto-requires c κs = ready-goto _ _ _ (c .before .before .before .before .pre .0) _ _ (c .before .w .given .1)
+counted-requires : tie.Need-counted-requires
+counted-requires c κs =
+    let at-line = c .before .before .before in
+    let at-of = at-line .before in
+    let start = at-of .before .before .before in
+    let a = start .args in
+    let pre = start .pre in
+    let fits = head-fits (a .index) (a .position) (a .program .now) (pre .0) (pre .1) _ (at-of .of .ensures) _ (at-line .line-instruction .ensures) in
+    let room = head-room (a .index) (a .position) (a .program .now) (pre .0) (pre .1) _ (at-of .of .ensures) _ (at-line .line-instruction .ensures) in
+    omega (arith, fits .steps, moves-few _ _ _ _ _ (fits .depth) _ room _ (c .moved .ensures) .steps)
 
-enum-known-w-2 : tie.Need-enum-known-w-2
-enum-known-w-2 c = search needs
-
-advanced-requires-2 : tie.Need-advanced-requires-2
-advanced-requires-2 c κs =
-    let movable = ready-call _ _ _ (c .before .before .before .before .pre .0) _ (c .before .w2 .given .1) .0 in
-    (movable .framed .above, movable .framed .below, movable .line)
-
-pushed-requires : tie.Need-pushed-requires
-unfolding advanced jumped
-pushed-requires c κs =
-    let called = c .before .before .w2 .given .1 in
-    let pre = c .before .before .before .before .before .pre in
-    rw (c .advanced2 .ensures) (omega (arith, pre .1 _ called, ready-call _ _ _ (pre .0) _ called .1))
-
-enum-told-3 : tie.Need-enum-told-3
-enum-told-3 c = search needs
-
-ended-requires : tie.Need-ended-requires
-ended-requires c κs =
-    let ready = c .before .before .before .pre .0 in
-    (ready-framed _ _ _ ready, open-case _ _ (ready .standing), c .before .before .before .pre .2)
+stored-requires : tie.Need-stored-requires
+unfolding countedHead
+stored-requires c κs =
+    let at-moved = c .before in
+    let at-line = at-moved .before .before .before in
+    let at-of = at-line .before in
+    let start = at-of .before .before .before in
+    let a = start .args in
+    let pre = start .pre in
+    let fits = head-fits (a .index) (a .position) (a .program .now) (pre .0) (pre .1) _ (at-of .of .ensures) _ (at-line .line-instruction .ensures) in
+    let room = head-room (a .index) (a .position) (a .program .now) (pre .0) (pre .1) _ (at-of .of .ensures) _ (at-line .line-instruction .ensures) in
+    (rw (c .counted .ensures) (moves-few _ _ _ _ _ (fits .depth) _ room _ (at-moved .moved .ensures) .depth), fits .depth, fits .line)
 
 returns : tie.Need-returns
-unfolding movedBy
-returns c = rw (c .enum-told .given .1) refl
-
-returns-2 : tie.Need-returns-2
-unfolding movedBy
-returns-2 c = rw (c .before .before .enum-told2 .given .1, ← (c .before .advanced .ensures)) (c .with-facts .ensures)
-
-returns-3 : tie.Need-returns-3
-unfolding movedBy
-returns-3 c = rw (c .before .before .w .given .1) (c .goto .ensures)
-
-returns-4 : tie.Need-returns-4
-unfolding movedBy
-returns-4 c = rw (c .before .before .before .w2 .given .1, ← (c .before .advanced2 .ensures)) (c .pushed .ensures)
-
-returns-5 : tie.Need-returns-5
-unfolding movedBy
-returns-5 c = rw (c .before .enum-told3 .given .1) (c .ended .ensures)
+returns c =
+    let at-counted = c .before in
+    let at-moved = at-counted .before in
+    let at-frame-at = at-moved .before in
+    let at-line = at-frame-at .before .before in
+    let at-of = at-line .before in
+    let start = at-of .before .before .before in
+    let a = start .args in
+    let pre = start .pre in
+    let here = head-on (a .index) (a .position) (a .program .now) (pre .0) (pre .1) _ (at-of .of .ensures) _ (at-line .line-instruction .ensures) in
+    λ w on.
+    let same : w ≡ at-line .line-instruction .result = cc (on, here) in
+    rw same
+    (moves-stored _ (pre .0 .standing .unfinished) _ _ _ _ _ (at-of .of .ensures) _ (at-frame-at .frame-at .ensures) _ (at-moved .moved .ensures) _
+    (at-counted .counted .ensures) _ (c .stored .ensures))
 
 pub moved-spec : {M : Type 1} → statement M
 moved-spec =
     tie.close
     (tie.spec
-    enum-told
-    enum-told-2
-    advanced-requires
-    with-facts-requires
-    enum-known-w
-    goto-requires
-    enum-known-w-2
-    advanced-requires-2
-    pushed-requires
-    enum-told-3
-    ended-requires
-    returns
-    returns-2
-    returns-3
-    returns-4
-    returns-5)
+    of-requires
+    line-instruction-requires
+    sub-frame-at
+    frame-at-requires
+    moved-requires
+    counted-requires
+    stored-requires
+    returns)

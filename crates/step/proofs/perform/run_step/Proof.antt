@@ -1,72 +1,53 @@
--- `step::perform::run_step` meets its contract: question 14 decides, and then what stands on the line.
+-- `step::perform::run_step` meets its contract: the questions of the line decide, and then the position moves.
 -- Assumes nothing.
 use borrow.Author.Needs.{needs}
-use mathlib.Core.Path.{ap, _∙_}
-use native.Mathlib.Omega.{arith}
-use Rattle.step.specs.Perform.{answered}
-use Rattle.step.proofs.Laws.Answers.{steps-used, line-empty, line-runs}
-use Rattle.step.proofs.Laws.Ready.{open-depth, line-ready}
+use Rattle.step.proofs.Laws.Moved.{line-no, line-moves, line-movable}
+use Rattle.step.proofs.Laws.Ready.{runs-some}
 use Rattle.step.proofs.perform.run_step.Statement.{statement}
 use Rattle.step.proofs.perform.run_step.Tie as tie
 
-refused-requires : tie.Need-refused-requires
-refused-requires c κs = search needs
+ask-line-requires : tie.Need-ask-line-requires
+ask-line-requires c κs = search needs
+
+enum-known-asked : tie.Need-enum-known-asked
+enum-known-asked c = search needs
+
+cast-t9 : tie.Need-cast-t9
+cast-t9 c = search needs
 
 returns : tie.Need-returns
-returns c = c .refused .ensures ∙ ap (answered _) (steps-used _ _ _ _ _ (omega arith))
+returns c =
+    let at-asked = c .before .before in
+    let at-ask-line = at-asked .before .before in
+    let some = runs-some _ _ _ (at-ask-line .before .before .before .pre .0) in
+    line-no _ _ _ _ _ _ (at-ask-line .ask-line .ensures) _ (some .there) _ (at-asked .asked .given .1)
 
-top-requires : tie.Need-top-requires
-top-requires c κs = let stands = c .before .before .before .before .before .pre .0 in
-    (stands .unfinished, open-depth _ _ stands)
+enum-known-asked-2 : tie.Need-enum-known-asked-2
+enum-known-asked-2 c = search needs
 
-instruction-on-requires : tie.Need-instruction-on-requires
-instruction-on-requires c κs = search needs
-
-enum-known-decoded : tie.Need-enum-known-decoded
-enum-known-decoded c = search needs
-
-enum-told : tie.Need-enum-told
-enum-told c = search needs
-
-refused-requires-2 : tie.Need-refused-requires-2
-refused-requires-2 c κs = search needs
+moved-requires : tie.Need-moved-requires
+moved-requires c κs =
+    let at-asked = c .before in
+    let at-ask-line = at-asked .before .before in
+    let pre = at-ask-line .before .before .before .pre in
+    let some = runs-some _ _ _ (pre .0) in
+    (pre .0, line-movable _ _ _ _ _ _ (at-ask-line .ask-line .ensures) _ (some .there) _ (at-asked .asked2 .given .1), pre .1 .case)
 
 returns-2 : tie.Need-returns-2
 returns-2 c =
-    let at-instruction-on = c .before .before .before in
-    let at-top = at-instruction-on .before .before .before in
-    c .refused2 .ensures
-    ∙ ap (answered _)
-    (line-empty _ _ _ _ _ (omega arith) _ (at-top .top .ensures) _ (at-instruction-on .instruction-on .ensures) (c .before .enum-told .given .1))
-
-perform-requires : tie.Need-perform-requires
-perform-requires c κs =
-    let at-decoded = c .before in
-    let at-instruction-on = at-decoded .before .before in
-    let at-top = at-instruction-on .before .before .before in
-    let pre = at-top .before .before .before .before .before .before .pre in
-    (line-ready _ _ _ (pre .0) (omega arith) _ (at-top .top .ensures) _ (at-instruction-on .instruction-on .ensures) _ (at-decoded .decoded .given .1), pre .1)
-
-returns-3 : tie.Need-returns-3
-returns-3 c =
-    let at-decoded = c .before .before in
-    let at-instruction-on = at-decoded .before .before in
-    let at-top = at-instruction-on .before .before .before in
-    c .perform .ensures
-    ∙ ap (answered _)
-    (line-runs _ _ _ _ _ (omega arith) _ (at-top .top .ensures) _ (at-instruction-on .instruction-on .ensures) _ (at-decoded .decoded .given .1))
+    let at-asked = c .before .before in
+    let at-ask-line = at-asked .before .before in
+    let some = runs-some _ _ _ (at-ask-line .before .before .before .pre .0) in
+    line-moves _ _ _ _ _ _ (at-ask-line .ask-line .ensures) _ (some .there) _ (at-asked .asked2 .given .1) _ (c .moved .ensures _ (some .there))
 
 pub run-step-spec : {M : Type 1} → statement M
 run-step-spec =
     tie.close
     (tie.spec
-    refused-requires
+    ask-line-requires
+    enum-known-asked
+    cast-t9
     returns
-    top-requires
-    instruction-on-requires
-    enum-known-decoded
-    enum-told
-    refused-requires-2
-    returns-2
-    perform-requires
-    returns-3)
+    enum-known-asked-2
+    moved-requires
+    returns-2)

@@ -1,46 +1,40 @@
 -- `step::possible::frames_fit` meets its contract: frame after frame is asked.
 -- Assumes nothing.
-use borrow.Author.Needs.{needs}
-use Prim.Native.Nat.{ℕ, _-_, _≤_}
-use mathlib.Core.Path.{_≡_, refl, sym, _∙_}
-use mathlib.Core.Bool.{Bool, true, cond}
-use mathlib.Core.List.{List}
-use lib.ListN.{getD}
+use Prim.Native.Nat.{ℕ, _+_, _-_, _≤_}
+use mathlib.Core.Path.{_≡_, refl, ap, _∙_}
+use mathlib.Core.Bool.{cond}
 use lib.Dec.{ltb}
+use lib.ListN.{getD}
+use native.Mathlib.Omega.{arith}
 use Rattle.task.specs.declared.bounds.Bounds.{Bounds}
 use Rattle.step.specs.Facts.{every}
 use Rattle.step.specs.Position.{origin}
 use Rattle.step.specs.Possible.{inUse, unused, frameFits}
 use Rattle.step.specs.declared.position.Frame.{Frame}
-use Rattle.step.proofs.Laws.Facts.{every-on, every-fails, every-done}
+use Rattle.step.proofs.Laws.Facts.{every-more}
+use borrow.Author.Needs.{needs}
 use Rattle.step.proofs.possible.frames_fit.Statement.{statement}
 use Rattle.step.proofs.possible.frames_fit.Tie as tie
 
--- the test of a frame, by the parts of the position that the loop holds
-abbrev fits : Bounds → ℕ → List Frame → ℕ → Bool
-fits bounds depth frames k = cond (ltb k depth) (inUse bounds (getD frames k origin)) (unused (getD frames k origin))
-
 abbrev Inv-loop : tie.InvT-loop
-Inv-loop bounds depth frames k₀ k = (k ≤ 16) × (every k (fits bounds depth frames) ≡ true)
+Inv-loop procedures last position fit₀ k₀ fit k =
+    (k ≤ 16) × ((b : Bounds) → b .procedures ≡ procedures → b .last ≡ last → fit ≡ every k (frameFits b position))
 
 abbrev μ-loop : tie.MeasureT-loop
-μ-loop bounds depth frames k₀ k = 16 - k
-
-cast-depth : tie.Need-cast-depth Inv-loop μ-loop
-cast-depth c = search needs
+μ-loop procedures last position fit₀ k₀ fit k = 16 - k
 
 loop-holds : tie.Need-loop-holds Inv-loop μ-loop
 unfolding every
-loop-holds c = (search needs, refl)
+loop-holds c = (search needs, λ b e f. refl)
 
-mul-frame-fits : tie.Need-mul-frame-fits Inv-loop μ-loop
-mul-frame-fits c = search needs
+add-frame-at : tie.Need-add-frame-at Inv-loop μ-loop
+add-frame-at c = search needs
 
-array-copy-out-frame-fits : tie.Need-array-copy-out-frame-fits Inv-loop μ-loop
-array-copy-out-frame-fits c = search needs
+frame-at-requires : tie.Need-frame-at-requires Inv-loop μ-loop
+frame-at-requires c κs = search needs
 
 frame-fits-requires : tie.Need-frame-fits-requires Inv-loop μ-loop
-frame-fits-requires c κs = tt
+frame-fits-requires c κs = search needs
 
 add-k : tie.Need-add-k Inv-loop μ-loop
 add-k c = search needs
@@ -49,22 +43,26 @@ loop-less : tie.Need-loop-less Inv-loop μ-loop
 loop-less c = search needs
 
 loop-again : tie.Need-loop-again Inv-loop μ-loop
-unfolding origin
+unfolding frameFits
 loop-again c =
-    let at-frame-fits = c .before in
-    let at-loop = at-frame-fits .before .before .before in
-    (search needs, every-on _ _ (at-loop .loop .inv .1) (sym (at-frame-fits .frame-fits .ensures) ∙ c .if1 .taken))
+    let at-frame-at = c .before in
+    let at-loop = at-frame-at .before .before .before in
+    let k = at-loop .loop .k in
+    let s = at-loop .before .args .position in
+    let back : k + 1 - 1 ≡ k = omega arith in (
+      search needs,
+      λ b e f.
+          every-more (frameFits b s) k _ _ (at-loop .loop .inv .1 b e f)
+          (c .frame-fits .ensures b e f
+          ∙ ap (λ (x : Frame). cond (ltb k (s .depth)) (inUse b x) (unused x))
+          (at-frame-at .frame-at .ensures ∙ ap (λ (n : ℕ). getD (s .frames) n origin) back)),
+    )
 
 returns : tie.Need-returns Inv-loop μ-loop
-unfolding frameFits origin
 returns c =
-    let at-frame-fits = c .before in
-    let at-loop-test = at-frame-fits .before .before in
-    sym (every-fails _ 16 _ (at-loop-test .loop-test .taken) (sym (at-frame-fits .frame-fits .ensures) ∙ c .if1 .left))
-
-returns-2 : tie.Need-returns-2 Inv-loop μ-loop
-unfolding frameFits
-returns-2 c = every-done _ 16 _ (c .before .loop .inv .0) (c .loop-test .left) (c .before .loop .inv .1)
+    let at-loop = c .before in
+    let all : at-loop .loop .k ≡ 16 = omega (arith, c .loop-test .left, at-loop .loop .inv .0) in
+    λ b e f. at-loop .loop .inv .1 b e f ∙ ap (λ (n : ℕ). every n (frameFits b (at-loop .before .args .position))) all
 
 pub frames-fit-spec : {M : Type 1} → statement M
 frames-fit-spec =
@@ -72,13 +70,11 @@ frames-fit-spec =
     (tie.spec
     Inv-loop
     μ-loop
-    cast-depth
     loop-holds
-    mul-frame-fits
-    array-copy-out-frame-fits
+    add-frame-at
+    frame-at-requires
     frame-fits-requires
     add-k
     loop-less
     loop-again
-    returns
-    returns-2)
+    returns)

@@ -47,7 +47,8 @@ step-once-requires c κs =
     let at-read-task = at-enum-told .before .before in
     let read = at-read-task .read-task .ensures in
     let holds = passed _ _ (sym (ap (λ (r : Reading). r .verdict) read) ∙ at-enum-told .enum-told .given .1) in
-    rw read (passed-held _ _ holds)
+    let accepted = c .before .before .enum-told3 .given .1 in
+    (rw read (passed-held _ _ holds), record { presets = _; value = _; passes = sym (at-check-program .check-program .ensures) ∙ accepted })
 
 returns-3 : tie.Need-returns-3
 returns-3 c =

@@ -45,7 +45,6 @@ use Rattle.task.proofs.verdict.Verdict.Laws as E′
 use Rattle.step.specs.Single.{singleStep}
 use Rattle.step.specs.declared.position.Position.{Position}
 use Rattle.step.specs.declared.perform.Stepped.{Stepped}
-use Rattle.step.proofs.Laws.Lent.{position-value}
 use Rattle.step.proofs.position.Position as P
 use Rattle.step.proofs.position.Position.Laws as P′
 use Rattle.step.proofs.perform.Stepped as S
@@ -58,6 +57,10 @@ use Rattle.step.proofs.single.step_in_place.Key.{name as #step-in-place
 use Rattle.step.proofs.single.step_in_place as step-in-place
 use Rattle.step.proofs.single.step_in_place.Statement as stated
 use Rattle.step.proofs.single.step_in_place.Code as code
+
+-- a position's machine value
+abbrev position-value : Position → Val
+position-value = LL.val P.the-type P′.the-laws
 
 -- what the walk has at exit: the borrow of the record, and nothing of the slices, which go to `single_step`
 abbrev stayed : Stays (step-in-place.ended .signature .params) (step-in-place.ended .kept)

@@ -28,11 +28,15 @@ run-step-requires c κs =
     let at-possible = at-if1 .before in
     let pre = at-possible .before .before .before .pre in (
       record {
-        task = pre .task;
-        possible = sym (at-possible .possible .ensures) ∙ not-false _ (at-if1 .if1 .left);
-        unfinished = omega arith;
+        standing =
+            record {
+              task = pre .0 .task;
+              possible = sym (at-possible .possible .ensures) ∙ not-false _ (at-if1 .if1 .left);
+              unfinished = omega arith;
+            };
+        lined = pre .1;
       },
-      pre,
+      pre .0,
     )
 
 returns-3 : tie.Need-returns-3

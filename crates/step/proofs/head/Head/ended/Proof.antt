@@ -9,7 +9,7 @@ popped-requires : tie.Need-popped-requires
 popped-requires c κs = search needs
 
 returns : tie.Need-returns
-returns c = ended-pops _ _ _ _ (c .before .if1 .taken) _ (c .popped .ensures)
+returns c = ended-pops _ _ _ _ _ (c .before .if1 .taken) _ (c .popped .ensures)
 
 add-next : tie.Need-add-next
 add-next c = search needs
@@ -24,13 +24,13 @@ returns-2 : tie.Need-returns-2
 returns-2 c =
     let at-case-at = c .before in
     let at-if2 = at-case-at .before in
-    ended-begins _ _ _ _ (at-if2 .before .before .before .if1 .left) (at-if2 .if2 .taken) _ (at-case-at .case-at .ensures) _ (c .next-case .ensures)
+    ended-begins _ _ _ _ _ (at-if2 .before .before .if1 .left) (at-if2 .if2 .taken) _ (at-case-at .case-at .ensures) _ (c .next-case .ensures)
 
-finished-requires : tie.Need-finished-requires
-finished-requires c κs = search needs
+next-case-requires-2 : tie.Need-next-case-requires-2
+next-case-requires-2 c κs = search needs
 
 returns-3 : tie.Need-returns-3
-returns-3 c = ended-finishes _ _ _ _ (c .before .before .before .before .if1 .left) (c .before .if2 .left) _ (c .finished .ensures)
+returns-3 c = ended-finishes _ _ _ _ _ (c .before .before .before .if1 .left) (c .before .if2 .left) _ (c .next-case2 .ensures)
 
 pub ended-spec : {M : Type 1} → statement M
 ended-spec =
@@ -42,5 +42,5 @@ ended-spec =
     case-at-requires
     next-case-requires
     returns-2
-    finished-requires
+    next-case-requires-2
     returns-3)
