@@ -24,14 +24,13 @@ use step::questions::STEPS;
 use task::bounds::line_count;
 use task::index::Index;
 use task::index::case_at;
-use task::instruction::Decoded;
 use task::instruction::Instruction;
 use task::instruction::Line;
 use task::instruction::Proc;
 use task::instruction::Triple;
-use task::instruction::decode_for;
+use task::instruction::decodes_for;
 use task::instruction::put_triple;
-use task::instruction::three_at;
+use task::instruction::spelled;
 use task::instruction::triple_at;
 use task::program::line_offset;
 use task::reading::read_task;
@@ -42,6 +41,7 @@ ghost use Prim.Native.Nat.{ℕ, _+_, _≤_, _<_};
 ghost use mathlib.Core.List.{List};
 ghost use lib.ListN.{length};
 ghost use Rattle.task.specs.Instruction.{allowed, encode};
+ghost use Rattle.task.specs.Program.{lineOffset};
 ghost use Rattle.step.specs.Head.{Stands};
 ghost use Rattle.step.specs.Position.{sameFrame};
 ghost use Rattle.step.specs.Ready.{Held};
@@ -95,8 +95,8 @@ fn line_fits(held: Triple, step: Step, w: Triple) -> bool
 }
 
 // Fills a step's line with its instruction's three bytes, if the step writes it.
-pub(crate) fn write_line(program: &mut [u8], at: usize, step: Step, w: Triple)
-    requires { ⌜ w ≡ encode (instructionOf step) ⌝ }
+pub(crate) fn write_line(program: &mut [u8; 768], at: usize, step: Step, w: Triple)
+    requires { ⌜ (w ≡ encode (instructionOf step)) × (at + 3 ≤ length (now program)) ⌝ }
     ensures { λ _. ⌜ now (program .exit) ≡ written (now (program .entry)) at step ⌝ }
 {
     match step {
@@ -155,16 +155,17 @@ fn take_step(
     frame: Frame,
     step: Step,
     w: Triple,
-    program: &mut [u8],
+    program: &mut [u8; 768],
 ) -> Outcome
     requires { ⌜ Held (now task) index (now offsets) × (head .steps < index .bounds .steps)
         × (allowed (index .bounds) (index .actions) (frame .line) (instructionOf step) ≡ true)
-        × (w ≡ encode (instructionOf step)) ⌝ }
+        × (w ≡ encode (instructionOf step))
+        × (lineOffset (index .bounds) (frame .procedure) (frame .line) + 3 ≤ length (now program)) ⌝ }
     ensures { λ r. ⌜ ((callers : List Frame) (s : Position) →
         Stands head callers s
         → turned (now (task .entry)) index s r (now (program .exit))
         ≡ onStep (now (task .entry)) index (now (offsets .entry)) (state at s (now (program .entry))) next frame step)
-        × Passes index head r ⌝ }
+        × Passes index head r × (length (now (program .exit)) ≡ length (now (program .entry))) ⌝ }
 {
     if index.cases <= head.case {
         return Outcome::Stopped(OPEN, at);
@@ -193,9 +194,9 @@ fn follow_step(
     kind: u16,
     body: usize,
     next: usize,
-    program: &mut [u8],
+    program: &mut [u8; 768],
 ) -> Outcome
-    requires { ⌜ Held (now task) index (now offsets) × (body + 5 ≤ length (now plan)) ⌝ }
+    requires { ⌜ Held (now task) index (now offsets) × (body + 5 ≤ length (now plan)) × (length (now program) ≡ 768) ⌝ }
     ensures { λ r. ⌜ ((callers : List Frame) (s : Position) →
         Stands head callers s
         → turned (now (task .entry)) index s r (now (program .exit))
@@ -208,7 +209,7 @@ fn follow_step(
         kind
         body
         next)
-        × Passes index head r ⌝ }
+        × Passes index head r × (length (now (program .exit)) ≡ length (now (program .entry))) ⌝ }
 {
     let bounds = index.bounds;
     if bounds.steps <= head.steps {
@@ -216,11 +217,11 @@ fn follow_step(
     }
     let procedure = plan[body];
     let line = plan[body + 1];
-    let triple = three_at(plan, body + 2);
-    let decoded = decode_for(bounds, index.actions, Proc(procedure), Line(line), triple);
-    let Decoded::Is(w) = decoded else {
+    let triple = triple_at(plan, body + 2);
+    if !decodes_for(bounds, index.actions, Proc(procedure), Line(line), triple) {
         return Outcome::Stopped(ALLOWED, at);
-    };
+    }
+    let w = spelled(triple);
     let frame = Frame {
         procedure: Proc(procedure),
         line: Line(line),
@@ -247,9 +248,9 @@ fn follow_record(
     plan: &[u8],
     at: usize,
     head: Head,
-    program: &mut [u8],
+    program: &mut [u8; 768],
 ) -> Outcome
-    requires { ⌜ Held (now task) index (now offsets) ⌝ }
+    requires { ⌜ Held (now task) index (now offsets) × (length (now program) ≡ 768) ⌝ }
     ensures { λ r. ⌜ ((callers : List Frame) (s : Position) →
         Stands head callers s
         → turned (now (task .entry)) index s r (now (program .exit))
@@ -259,7 +260,7 @@ fn follow_record(
         (now (offsets .entry))
         (now (plan .entry))
         (state at s (now (program .entry))))
-        × Passes index head r ⌝ }
+        × Passes index head r × (length (now (program .exit)) ≡ length (now (program .entry))) ⌝ }
 {
     let found = plan_record(plan, at);
     let Found::Record {
@@ -301,12 +302,13 @@ fn follow(
     index: Index,
     offsets: &[usize; 64],
     plan: &[u8],
-    program: &mut [u8],
+    program: &mut [u8; 768],
 ) -> Verdict
     requires { ⌜ ReadAs (now task) (record { index = index; offsets = now offsets; presets = now program }) ⌝ }
     ensures { λ r. ⌜
-        followedBy r (now (program .exit))
-        ≡ follow (now (task .entry)) (record { index = index; offsets = now (offsets .entry); presets = now (program .entry) }) (now (plan .entry)) ⌝ }
+        (followedBy r (now (program .exit))
+        ≡ follow (now (task .entry)) (record { index = index; offsets = now (offsets .entry); presets = now (program .entry) }) (now (plan .entry)))
+        × (length (now (program .exit)) ≡ 768) ⌝ }
 {
     let first = case_at(task, index.first, 0);
     let mut at = 0;

@@ -11,7 +11,7 @@ use task::instruction::Line;
 use task::instruction::Proc;
 use task::instruction::Triple;
 use task::instruction::spelled;
-use task::instruction::three_at;
+use task::instruction::triple_at;
 use task::program::line_offset;
 ghost use mathlib.Core.Path.{_≡_};
 ghost use mathlib.Core.List.{_++_};
@@ -64,7 +64,7 @@ fn put_step(
     bounds: Bounds,
     program: &[u8],
     frame: Frame,
-    lines: &mut [u8],
+    lines: &mut [u8; 768],
     plan: &mut [u8],
     at: usize,
 )
@@ -74,8 +74,8 @@ fn put_step(
         × (now (plan .exit) ≡ withBytes (now (plan .entry)) at (recordOn bounds (now (program .entry)) (now (lines .entry)) frame)) ⌝ }
 {
     let offset = line_offset(bounds, frame.procedure, frame.line);
-    let triple = three_at(program, offset);
-    let step = step_on(three_at(lines, offset), spelled(triple));
+    let triple = triple_at(program, offset);
+    let step = step_on(triple_at(lines, offset), spelled(triple));
     write_line(lines, offset, step, triple);
     put(plan, at, &record_of(frame, step, triple));
 }
@@ -87,7 +87,7 @@ pub(crate) fn write_records(
     program: &[u8],
     trace: &[u8; 4096],
     steps: usize,
-    lines: &mut [u8],
+    lines: &mut [u8; 768],
     plan: &mut [u8],
 )
     requires { ⌜ (steps ≤ 4096)

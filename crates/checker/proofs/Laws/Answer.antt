@@ -37,13 +37,13 @@ size-most b h =
     let r = ranges b h in
     omega (arith, mul-le-mul {n₁ = b .procedures} {m₁ = b .last + 1} {n₂ = 8} {m₂ = 32} (omega arith) (omega arith))
 
--- a program of the preset program's length has room for a program's lines
+-- 768 bytes have room for a program's lines
 pub lines-there : (bytes : List ℕ) (r : Reading) → r ≡ readTask bytes → (value : ℕ) → r .verdict ≡ Accepted value → (lines : ℕ)
-    → lines ≡ lineCount (r .task .index .bounds) → (program : List ℕ) → length program ≡ length (r .task .presets) → 3 * lines ≤ length program
-lines-there bytes r e value h lines es program l =
+    → lines ≡ lineCount (r .task .index .bounds) → 3 * lines ≤ 768
+lines-there bytes r e value h lines es =
     let p = passed bytes value (sym (ap (λ (x : Reading). x .verdict) e) ∙ h) in
     let t = ap (λ (x : Reading). x .task) e in
-    omega (arith, es, rw (← t) at (size-most _ (p .bounded)), rw (← t) at (p .presets))
+    omega (arith, es, rw (← t) at (size-most _ (p .bounded)))
 
 -- the first bytes of a program, copied to a buffer, fill it
 pub copied-fills : (size : ℕ) (program buffer after : List ℕ) → size ≤ length program

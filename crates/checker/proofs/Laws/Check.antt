@@ -17,15 +17,17 @@ use Rattle.records.specs.declared.record.Found.the-variants.{Record, Missing}
 use Rattle.records.proofs.Laws.Loop.{ask-yes, ask-no}
 use Rattle.records.proofs.Laws.Record.{record-ends}
 use Rattle.records.proofs.Laws.Tests.{both-true, cond-either, cond-yes, cond-no}
-use Rattle.task.specs.Instruction.{allowed, encode, decodeFor, tripleAt, withTriple}
-use Rattle.task.specs.Program.{lineOffset, sameTriple}
+use Rattle.task.specs.Instruction.{allowed, spelled, encode, decodeFor, tripleAt, withTriple}
+use Rattle.task.specs.Program.{lineOffset, sameTriple, isInstruction}
+use Rattle.task.specs.declared.bounds.Bounds.{Bounds}
 use Rattle.task.specs.declared.index.Index.{Index}
-use Rattle.task.specs.declared.instruction.Decoded.{Decoded}
-use Rattle.task.specs.declared.instruction.Decoded.the-variants.{Is, Nothing}
+use Rattle.task.specs.declared.instruction.Decoded.the-variants.{Is}
 use Rattle.task.specs.declared.instruction.Instruction.{Instruction}
 use Rattle.task.specs.declared.instruction.Instruction.the-variants.{Act}
+use Rattle.task.specs.declared.instruction.Line.{Line}
+use Rattle.task.specs.declared.instruction.Proc.{Proc}
 use Rattle.task.specs.declared.instruction.Triple.{Triple}
-use Rattle.task.proofs.Laws.Instruction.{Allowed, allows}
+use Rattle.task.proofs.Laws.Instruction.{Allowed, allows, keep-is, not-instruction, instruction-is, decode-spelled, put-length}
 use Rattle.step.specs.declared.head.Head.{Head}
 use Rattle.step.specs.Perform.{perform}
 use Rattle.step.specs.Position.{sameFrame, top}
@@ -63,6 +65,19 @@ pub step-instruction : (kind : ℕ) (w : Instruction) → instructionOf (stepOf 
 unfolding instructionOf stepOf
 step-instruction kind w = cond-either (λ (x : Step). instructionOf x ≡ w) (eqb kind 16) _ _ (λ h. refl) (λ h. refl)
 
+-- three bytes that question 15 lets pass spell an instruction, and it is the one
+module _ (b : Bounds) (actions : ℕ) (j : Proc) (l : Line) (t : Triple) (y : isInstruction (decodeFor b actions j l t) ≡ true) where
+  for-spelled : (w : Instruction) → decodeFor b actions j l t ≡ Is w → spelled t ≡ Is w
+  unfolding decodeFor
+  for-spelled w h = decode-spelled b actions l t w (keep-is _ _ w h .1)
+
+  pub for-spells : isInstruction (spelled t) ≡ true
+  unfolding isInstruction
+  for-spells = let some = instruction-is _ y in rw (for-spelled (some .0) (some .1)) refl
+
+  pub for-is : (w : Instruction) → spelled t ≡ Is w → decodeFor b actions j l t ≡ Is w
+  for-is w e = let some = instruction-is _ y in some .1 ∙ sym (for-spelled (some .0) (some .1)) ∙ e
+
 -- question 18 of a repeat, and the line of a step, by the instruction's three bytes `w`
 module _ (step : Step) (v : Instruction) (w : Triple) (k : w ≡ encode (instructionOf step)) where
   pub line-repeats : step ≡ Repeat v → (held : Triple) → sameTriple held w ≡ lineFits held step
@@ -72,6 +87,12 @@ module _ (step : Step) (v : Instruction) (w : Triple) (k : w ≡ encode (instruc
   pub line-written : step ≡ Write v → (program : List ℕ) (at : ℕ) → withTriple program at w ≡ written program at step
   unfolding written instructionOf
   line-written e program at = rw e (ap (withTriple program at) (rw e at k))
+
+-- a step writes in place
+pub written-length : (program : List ℕ) (at : ℕ) (step : Step) → length (written program at step) ≡ length program
+unfolding written
+written-length program at (Write w) = put-length program at (encode w)
+written-length program at (Repeat w) = refl
 
 -- an instruction on the top frame's line that questions 14 to 17 let pass may be asked about
 pub step-askable : (i : Index) (h : Head) → h .case < i .cases → h .steps < i .bounds .steps → (f g : Frame) → g ≡ topOf h → (m : Bool)
@@ -158,21 +179,22 @@ module _ (bytes : List ℕ) (i : Index) (offsets : List ℕ) (at : ℕ) (p : Pos
     steps-used h = ask-no _ _ _ (le-ltb (p .steps) (i .bounds .steps) h)
 
     module _ (few : p .steps < i .bounds .steps) (f : Frame) (procedure : f .procedure .0 ≡ byteAt plan body)
-        (line : f .line .0 ≡ byteAt plan (body + 1)) (w : Triple) (ew : w ≡ tripleAt plan (body + 2)) (d : Decoded)
-        (ed : d ≡ decodeFor (i .bounds) (i .actions) (f .procedure) (f .line) w) where
-      on-decoded : onDecoded bytes i offsets (state at p program) kind next f d ≡ stepTurn bytes i offsets (state at p program) plan kind body next
+        (line : f .line .0 ≡ byteAt plan (body + 1)) (w : Triple) (ew : w ≡ tripleAt plan (body + 2)) (m : Bool)
+        (em : m ≡ isInstruction (decodeFor (i .bounds) (i .actions) (f .procedure) (f .line) w)) where
+      on-decoded : onDecoded bytes i offsets (state at p program) kind next f (decodeFor (i .bounds) (i .actions) (f .procedure) (f .line) w)
+          ≡ stepTurn bytes i offsets (state at p program) plan kind body next
       unfolding stepTurn frameAt
-      on-decoded = rw (ed, ew, ← procedure, ← line) (ask-yes _ _ _ (lt-ltb (p .steps) (i .bounds .steps) few))
+      on-decoded = rw (ew, ← procedure, ← line) (ask-yes _ _ _ (lt-ltb (p .steps) (i .bounds .steps) few))
 
-      pub none-decoded : d ≡ Nothing → turned bytes i p (Stopped ALLOWED at) program ≡ stepTurn bytes i offsets (state at p program) plan kind body next
+      pub none-decoded : m ≡ false → turned bytes i p (Stopped ALLOWED at) program ≡ stepTurn bytes i offsets (state at p program) plan kind body next
       unfolding turned onDecoded
-      none-decoded h = rw h at on-decoded
+      none-decoded h = rw (not-instruction _ (sym em ∙ h)) at on-decoded
 
-      pub step-decoded : (x : Instruction) → d ≡ Is x → (step : Step) → step ≡ stepOf kind x
+      pub step-decoded : m ≡ true → (x : Instruction) → spelled w ≡ Is x → (step : Step) → step ≡ stepOf kind x
           → (t : Turn _ Result) → t ≡ onStep bytes i offsets (state at p program) next f step
           → t ≡ stepTurn bytes i offsets (state at p program) plan kind body next
       unfolding onDecoded
-      step-decoded x h step es t et = et ∙ cc (es) ∙ rw h at on-decoded
+      step-decoded y x h step es t et = et ∙ cc (es) ∙ rw (for-is _ _ _ _ _ (sym em ∙ y) x h) at on-decoded
 
 module _ (bytes : List ℕ) (i : Index) (offsets plan : List ℕ) (at : ℕ) (p : Position) (program : List ℕ) where
   -- the record that `f` found at the offset

@@ -23,6 +23,7 @@ use Rattle.checker.specs.Plan.{recordOf, closing, planSize, instructionO
 use Rattle.checker.specs.Trace.{withBytes, stepAt, linesWith, recordOn, recordsAfter}
 use Rattle.checker.specs.Write.{stepOn}
 use Rattle.checker.specs.declared.plan.Step.{Step}
+use Rattle.checker.proofs.Laws.Check.{written-length}
 use Rattle.checker.proofs.Laws.Trace.{records-next, recordNext, next-length, records-length}
 use Rattle.checker.proofs.Laws.Write.{closing-length}
 
@@ -78,6 +79,11 @@ module _ (b : Bounds) (program lines : List ℕ) (f : Frame) (offset : ℕ) (eo 
       → after ≡ withBytes plan at added → after ≡ withBytes plan at (recordOn b program lines f)
   unfolding recordOn
   step-put added ea at plan after e = e ∙ rw (ea, is-step) refl
+
+-- its lines are as long as they were
+pub lines-length : (b : Bounds) (program lines : List ℕ) (f : Frame) → length (linesWith b program lines f) ≡ length lines
+unfolding linesWith
+lines-length b program lines f = written-length lines _ _
 
 module _ (b : Bounds) (program presets trace : List ℕ) where
   -- the plan's bytes behind `k` steps

@@ -38,9 +38,6 @@ returns-2 c =
     let at-read-task = at-enum-told .before .before in
     buffer-short _ _ _ _ (at-read-task .read-task .ensures) _ (at-enum-told .enum-told .given .1) _ (at-line-count .line-count .ensures) (omega arith)
 
-slice-aggregate-follow : tie.Need-slice-aggregate-follow
-slice-aggregate-follow c = search needs
-
 follow-requires : tie.Need-follow-requires
 follow-requires c κs =
     let at-enum-told = c .before .before .before .before .before .before .before .before in
@@ -60,27 +57,29 @@ enum-told-4 c = search needs
 
 returns-3 : tie.Need-returns-3
 returns-3 c =
-    let at-follow = c .before .before .before in
-    let at-line-count = at-follow .before .before .before .before .before .before in
+    let at-follow = c .before .before in
+    let at-if1 = at-follow .before .before .before .before .before in
+    let at-line-count = at-if1 .before in
     let at-enum-told = at-line-count .before .before .before in
     let at-read-task = at-enum-told .before .before in
-    plan-refused _ _ _ _ (at-read-task .read-task .ensures) _ (at-enum-told .enum-told .given .1) _ (at-line-count .line-count .ensures) (omega arith) _ _
-    (at-follow .follow .ensures) _ _
+    plan-refused _ _ _ _ (at-read-task .read-task .ensures) _ (at-enum-told .enum-told .given .1) _ (at-line-count .line-count .ensures) (omega (arith, at-if1 .if1 .left)) _ _
+    (at-follow .follow .ensures .0) _ _
     (c .enum-told4 .given .1)
 
 slice-aggregate-fill : tie.Need-slice-aggregate-fill
-slice-aggregate-fill c = search needs
+slice-aggregate-fill c =
+    let at-follow = c .before .before .before .before in
+    sym (at-follow .follow .ensures .1)
 
 fill-requires : tie.Need-fill-requires
 fill-requires c κs =
-    let at-follow = c .before .before .before .before .before in
+    let at-follow = c .before .before .before .before in
     let at-line-count = at-follow .before .before .before .before .before .before in
     let at-enum-told = at-line-count .before .before .before in
     let at-read-task = at-enum-told .before .before in
     let there =
-    lines-there _ _ (at-read-task .read-task .ensures) _ (at-enum-told .enum-told .given .1) _ (at-line-count .line-count .ensures)
-    (at-follow .follow .last .1 .1 .1 .1 .0) (at-follow .follow .kept .1 .1 .1 .1 .0) in
-    (omega arith, omega (arith, there))
+    lines-there _ _ (at-read-task .read-task .ensures) _ (at-enum-told .enum-told .given .1) _ (at-line-count .line-count .ensures) in
+    (omega arith, omega (arith, there, at-follow .follow .ensures .1))
 
 same-length : tie.Need-same-length
 same-length c = search needs
@@ -89,13 +88,13 @@ returns-4 : tie.Need-returns-4
 returns-4 c =
     let at-fill = c .before .before in
     let at-enum-told3 = at-fill .before .before .before in
-    let at-follow = at-enum-told3 .before .before .before in
+    let at-follow = at-enum-told3 .before .before in
     let at-if1 = at-follow .before .before .before .before .before in
     let at-line-count = at-if1 .before in
     let at-enum-told = at-line-count .before .before .before in
     let at-read-task = at-enum-told .before .before in
     plan-accepted _ _ _ _ (at-read-task .read-task .ensures) _ (at-enum-told .enum-told .given .1) _ (at-line-count .line-count .ensures)
-    (omega (arith, at-if1 .if1 .left)) _ _ (at-follow .follow .ensures) _
+    (omega (arith, at-if1 .if1 .left)) _ _ (at-follow .follow .ensures .0) _
     (at-enum-told3 .enum-told3 .given .1) _ (at-fill .fill .ensures)
 
 pub check-plan-spec : {M : Type 1} → statement M
@@ -110,7 +109,6 @@ check-plan-spec =
     cast-size
     mul-size
     returns-2
-    slice-aggregate-follow
     follow-requires
     enum-told-3
     enum-told-4

@@ -18,13 +18,15 @@ use Rattle.checker.proofs.check.follow.Tie as tie
 abbrev Inv-loop : tie.InvT-loop
 Inv-loop task index offsets plan program₀ at₀ head₀ callers₀ program at head callers =
     Following task index offsets plan (follow task (record { index = index; offsets = offsets; presets = program₀ }) plan) at program head callers
-    × (length program ≡ length program₀)
+    × (length program ≡ 768)
 
 abbrev μ-loop : tie.MeasureT-loop
 μ-loop task index offsets plan program₀ at₀ head₀ callers₀ program at head callers = length plan - at
 
 case-at-requires : tie.Need-case-at-requires Inv-loop μ-loop
-case-at-requires c κs = let passed = read-passed _ _ (c .before .before .before .pre) in omega (arith, passed .cased, passed .cases .0)
+case-at-requires c κs =
+    let at-start = c .before .before in
+    let passed = read-passed _ _ (at-start .pre) in omega (arith, passed .cased, passed .cases .0)
 
 starting-requires : tie.Need-starting-requires Inv-loop μ-loop
 starting-requires c κs = search needs
@@ -32,11 +34,15 @@ starting-requires c κs = search needs
 loop-holds : tie.Need-loop-holds Inv-loop μ-loop
 loop-holds c =
     let at-case-at = c .before in
-    let passed = read-passed _ _ (at-case-at .before .before .before .before .pre) in
-    rw (c .starting .ensures, at-case-at .case-at .ensures) (follow-begins _ _ passed _ _ refl, refl)
+    let at-start = at-case-at .before .before .before in
+    let passed = read-passed _ _ (at-start .pre) in
+    rw (c .starting .ensures, at-case-at .case-at .ensures) (follow-begins _ _ passed _ _ refl, passed .presets)
 
 follow-record-requires : tie.Need-follow-record-requires Inv-loop μ-loop
-follow-record-requires c κs = passed-held _ _ (read-passed _ _ (c .before .before .before .before .before .before .before .pre))
+follow-record-requires c κs =
+    let at-loop = c .before in
+    let at-start = at-loop .before .before .before .before .before in
+    (passed-held _ _ (read-passed _ _ (at-start .pre)), at-loop .loop .inv .1)
 
 enum-known-outcome : tie.Need-enum-known-outcome Inv-loop μ-loop
 enum-known-outcome c = search needs
@@ -47,9 +53,9 @@ cast-depth c = search needs
 caller-requires : tie.Need-caller-requires Inv-loop μ-loop
 caller-requires c κs =
     let at-outcome = c .before .before in
-    let at-follow-record = at-outcome .before .before .before .before in
+    let at-follow-record = at-outcome .before .before in
     let at-loop = at-follow-record .before .before in
-    let at-start = at-loop .before .before .before .before .before .before in
+    let at-start = at-loop .before .before .before .before .before in
     let passed = read-passed _ _ (at-start .pre) in
     let turn = at-follow-record .follow-record .ensures in
     let told = at-outcome .outcome .given .1 in
@@ -61,9 +67,9 @@ mul-callers c = search needs
 array-set-from-callers : tie.Need-array-set-from-callers Inv-loop μ-loop
 array-set-from-callers c =
     let at-outcome = c .before .before .before in
-    let at-follow-record = at-outcome .before .before .before .before in
+    let at-follow-record = at-outcome .before .before in
     let at-loop = at-follow-record .before .before in
-    let at-start = at-loop .before .before .before .before .before .before in
+    let at-start = at-loop .before .before .before .before .before in
     let passed = read-passed _ _ (at-start .pre) in
     let turn = at-follow-record .follow-record .ensures in
     let told = at-outcome .outcome .given .1 in
@@ -72,9 +78,9 @@ array-set-from-callers c =
 sub-below : tie.Need-sub-below Inv-loop μ-loop
 sub-below c =
     let at-outcome = c .before .before .before in
-    let at-follow-record = at-outcome .before .before .before .before in
+    let at-follow-record = at-outcome .before .before in
     let at-loop = at-follow-record .before .before in
-    let at-start = at-loop .before .before .before .before .before .before in
+    let at-start = at-loop .before .before .before .before .before in
     let passed = read-passed _ _ (at-start .pre) in
     let turn = at-follow-record .follow-record .ensures in
     let told = at-outcome .outcome .given .1 in
@@ -86,9 +92,9 @@ mul-below c = search needs
 array-copy-out-below : tie.Need-array-copy-out-below Inv-loop μ-loop
 array-copy-out-below c =
     let at-outcome = c .before .before .before in
-    let at-follow-record = at-outcome .before .before .before .before in
+    let at-follow-record = at-outcome .before .before in
     let at-loop = at-follow-record .before .before in
-    let at-start = at-loop .before .before .before .before .before .before in
+    let at-start = at-loop .before .before .before .before .before in
     let passed = read-passed _ _ (at-start .pre) in
     let turn = at-follow-record .follow-record .ensures in
     let told = at-outcome .outcome .given .1 in
@@ -97,9 +103,9 @@ array-copy-out-below c =
 moved-requires : tie.Need-moved-requires Inv-loop μ-loop
 moved-requires c κs =
     let at-outcome = c .before .before .before .before in
-    let at-follow-record = at-outcome .before .before .before .before in
+    let at-follow-record = at-outcome .before .before in
     let at-loop = at-follow-record .before .before in
-    let at-start = at-loop .before .before .before .before .before .before in
+    let at-start = at-loop .before .before .before .before .before in
     let passed = read-passed _ _ (at-start .pre) in
     let turn = at-follow-record .follow-record .ensures in
     let told = at-outcome .outcome .given .1 in
@@ -108,9 +114,9 @@ moved-requires c κs =
 counted-requires : tie.Need-counted-requires Inv-loop μ-loop
 counted-requires c κs =
     let at-outcome = c .before .before .before .before .before in
-    let at-follow-record = at-outcome .before .before .before .before in
+    let at-follow-record = at-outcome .before .before in
     let at-loop = at-follow-record .before .before in
-    let at-start = at-loop .before .before .before .before .before .before in
+    let at-start = at-loop .before .before .before .before .before in
     let passed = read-passed _ _ (at-start .pre) in
     let turn = at-follow-record .follow-record .ensures in
     let told = at-outcome .outcome .given .1 in
@@ -119,9 +125,9 @@ counted-requires c κs =
 loop-less : tie.Need-loop-less Inv-loop μ-loop
 loop-less c =
     let at-outcome = c .before .before .before .before .before .before in
-    let at-follow-record = at-outcome .before .before .before .before in
+    let at-follow-record = at-outcome .before .before in
     let at-loop = at-follow-record .before .before in
-    let at-start = at-loop .before .before .before .before .before .before in
+    let at-start = at-loop .before .before .before .before .before in
     let passed = read-passed _ _ (at-start .pre) in
     let turn = at-follow-record .follow-record .ensures in
     let told = at-outcome .outcome .given .1 in
@@ -130,56 +136,48 @@ loop-less c =
 loop-again : tie.Need-loop-again Inv-loop μ-loop
 unfolding origin
 loop-again c =
-    let at-outcome = c .before .before .before .before .before .before in
-    let at-follow-record = at-outcome .before .before .before .before in
+    let at-moved = c .before in
+    let at-caller = at-moved .before .before in
+    let at-outcome = at-caller .before .before .before in
+    let at-follow-record = at-outcome .before .before in
     let at-loop = at-follow-record .before .before in
-    let at-start = at-loop .before .before .before .before .before .before in
+    let at-start = at-loop .before .before .before .before .before in
     let passed = read-passed _ _ (at-start .pre) in
     let turn = at-follow-record .follow-record .ensures in
-    let told = at-outcome .outcome .given .1 in
-    let at-moved = c .before in
-    let at-caller = at-moved .before .before in (
+    let told = at-outcome .outcome .given .1 in (
       follow-on _ _ passed _ _ _ _ _ _ (at-loop .loop .inv .0) _ _ (turn .0) (turn .1) _ _ _ told _ _ (at-caller .caller .ensures) refl _
           (at-moved .moved .ensures) _ (c .counted .ensures),
-      at-follow-record .follow-record .kept .1 .1 .1 .1 .1 .1 .0 ∙ at-loop .loop .inv .1,
+      at-follow-record .follow-record .ensures .2 ∙ at-loop .loop .inv .1,
     )
 
 enum-known-outcome-2 : tie.Need-enum-known-outcome-2 Inv-loop μ-loop
 enum-known-outcome-2 c = search needs
 
-same-length : tie.Need-same-length Inv-loop μ-loop
-same-length c =
-    let at-follow-record = c .before .before .before .before .before in
-    let at-loop = at-follow-record .before .before in
-    at-follow-record .follow-record .kept .1 .1 .1 .1 .1 .1 .0 ∙ at-loop .loop .inv .1
-
 returns : tie.Need-returns Inv-loop μ-loop
 unfolding followedBy
 returns c =
-    let at-follow-record = c .before .before .before .before .before in
+    let at-outcome2 = c .before in
+    let at-follow-record = at-outcome2 .before .before in
     let at-loop = at-follow-record .before .before in
-    let passed = read-passed _ _ (at-loop .before .before .before .before .before .before .pre) in
-    follow-stops _ _ passed _ _ _ _ _ _ (at-loop .loop .inv .0) _ _ (at-follow-record .follow-record .ensures .0) _ _ (c .before .outcome2 .given .1)
+    let at-start = at-loop .before .before .before .before .before in
+    let passed = read-passed _ _ (at-start .pre) in
+    (follow-stops _ _ passed _ _ _ _ _ _ (at-loop .loop .inv .0) _ _ (at-follow-record .follow-record .ensures .0) _ _ (at-outcome2 .outcome2 .given .1), at-follow-record .follow-record .ensures .2 ∙ at-loop .loop .inv .1)
 
 enum-told : tie.Need-enum-told Inv-loop μ-loop
 enum-told c = search needs
 
-cast-t31 : tie.Need-cast-t31 Inv-loop μ-loop
-cast-t31 c = search needs
-
-same-length-2 : tie.Need-same-length-2 Inv-loop μ-loop
-same-length-2 c =
-    let at-follow-record = c .before .before .before .before .before in
-    let at-loop = at-follow-record .before .before in
-    at-follow-record .follow-record .kept .1 .1 .1 .1 .1 .1 .0 ∙ at-loop .loop .inv .1
+cast-t30 : tie.Need-cast-t30 Inv-loop μ-loop
+cast-t30 c = search needs
 
 returns-2 : tie.Need-returns-2 Inv-loop μ-loop
 unfolding followedBy
 returns-2 c =
-    let at-follow-record = c .before .before .before .before .before in
+    let at-enum-told = c .before in
+    let at-follow-record = at-enum-told .before .before in
     let at-loop = at-follow-record .before .before in
-    let passed = read-passed _ _ (at-loop .before .before .before .before .before .before .pre) in
-    follow-closes _ _ passed _ _ _ _ _ _ (at-loop .loop .inv .0) _ _ (at-follow-record .follow-record .ensures .0) (c .before .enum-told .given .1)
+    let at-start = at-loop .before .before .before .before .before in
+    let passed = read-passed _ _ (at-start .pre) in
+    (follow-closes _ _ passed _ _ _ _ _ _ (at-loop .loop .inv .0) _ _ (at-follow-record .follow-record .ensures .0) (at-enum-told .enum-told .given .1), at-follow-record .follow-record .ensures .2 ∙ at-loop .loop .inv .1)
 
 pub follow-spec : {M : Type 1} → statement M
 follow-spec =
@@ -204,9 +202,7 @@ follow-spec =
     loop-less
     loop-again
     enum-known-outcome-2
-    same-length
     returns
     enum-told
-    cast-t31
-    same-length-2
+    cast-t30
     returns-2)

@@ -1,6 +1,6 @@
 -- `checker::check::follow_record` meets its contract: questions 11 to 13 decide, and then what the kind asks.
 -- Assumes nothing.
-use mathlib.Core.Path.{sym, _∙_}
+use mathlib.Core.Path.{refl, sym, _∙_}
 use borrow.Author.Tests.{not-true, not-false}
 use Rattle.checker.specs.Outcome.{Passes}
 use Rattle.checker.proofs.Laws.Check.{record-missing, another-kind, length-differs, closing-record, step-record, step-there}
@@ -21,7 +21,7 @@ returns : tie.Need-returns
 unfolding Passes
 returns c =
     let at-plan-record = c .before .before in
-    (λ callers s st. record-missing _ _ _ _ _ s _ _ (at-plan-record .plan-record .ensures) (c .enum-told .given .1), tt)
+    (λ callers s st. record-missing _ _ _ _ _ s _ _ (at-plan-record .plan-record .ensures) (c .enum-told .given .1), tt, refl)
 
 is-kind-requires : tie.Need-is-kind-requires
 is-kind-requires c κs = search needs
@@ -36,6 +36,7 @@ returns-2 c =
           another-kind _ _ _ _ _ s _ _ (at-plan-record .plan-record .ensures) _ _ _ _ (at-found .found .given .1) _ (at-is-kind .is-kind .ensures)
           (not-true _ (c .if1 .taken)),
       tt,
+      refl,
     )
 
 length-fits-requires : tie.Need-length-fits-requires
@@ -53,6 +54,7 @@ returns-3 c =
           length-differs _ _ _ _ _ s _ _ (at-plan-record .plan-record .ensures) _ _ _ _ (at-found .found .given .1) _ (at-is-kind .is-kind .ensures)
           (not-false _ (at-if1 .if1 .left)) _ (at-length-fits .length-fits .ensures) (not-true _ (c .if2 .taken)),
       tt,
+      refl,
     )
 
 close-requires : tie.Need-close-requires
@@ -72,6 +74,7 @@ returns-4 c =
           (not-false _ (at-if1 .if1 .left)) _ (at-length-fits .length-fits .ensures) (not-false _ (at-if2 .if2 .left)) _ (at-if3 .if3 .taken)
           (c .close .ensures .0 _ _ s (st .case)),
       c .close .ensures .1 _,
+      refl,
     )
 
 follow-step-requires : tie.Need-follow-step-requires
@@ -81,17 +84,13 @@ follow-step-requires c κs =
     let at-length-fits = at-if2 .before in
     let at-found = at-length-fits .before .before .before .before in
     let at-plan-record = at-found .before .before in
-    let at-start = at-plan-record .before .before .before .before in
+    let at-start = at-plan-record .before .before .before in
     let fits = sym (at-length-fits .length-fits .ensures) ∙ not-false _ (at-if2 .if2 .left) in
-    (at-start .pre, step-there _ _ _ (at-plan-record .plan-record .ensures) _ _ _ _ (at-found .found .given .1) fits (at-if3 .if3 .left))
-
-same-length : tie.Need-same-length
-same-length c = search needs
+    (at-start .pre .0, step-there _ _ _ (at-plan-record .plan-record .ensures) _ _ _ _ (at-found .found .given .1) fits (at-if3 .if3 .left), at-start .pre .1)
 
 returns-5 : tie.Need-returns-5
 returns-5 c =
-    let at-follow-step = c .before .before in
-    let at-if3 = at-follow-step .before .before in
+    let at-if3 = c .before .before in
     let at-if2 = at-if3 .before in
     let at-length-fits = at-if2 .before in
     let at-if1 = at-length-fits .before in
@@ -101,8 +100,9 @@ returns-5 c =
       λ callers s st.
           step-record _ _ _ _ _ s _ _ (at-plan-record .plan-record .ensures) _ _ _ _ (at-found .found .given .1) _ (at-is-kind .is-kind .ensures)
           (not-false _ (at-if1 .if1 .left)) _ (at-length-fits .length-fits .ensures) (not-false _ (at-if2 .if2 .left)) _ (at-if3 .if3 .left)
-          (at-follow-step .follow-step .ensures .0 callers s st),
-      at-follow-step .follow-step .ensures .1,
+          (c .follow-step .ensures .0 callers s st),
+      c .follow-step .ensures .1,
+      c .follow-step .ensures .2,
     )
 
 pub follow-record-spec : {M : Type 1} → statement M
@@ -120,5 +120,4 @@ follow-record-spec =
     close-requires
     returns-4
     follow-step-requires
-    same-length
     returns-5)

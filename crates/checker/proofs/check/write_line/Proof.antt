@@ -16,14 +16,11 @@ put-triple-requires c κs = search needs
 enum-told-2 : tie.Need-enum-told-2
 enum-told-2 c = search needs
 
-same-length : tie.Need-same-length
-same-length c = search needs
-
 returns : tie.Need-returns
 returns c =
-    let at-put-triple = c .before .before in
-    let at-enum-told = at-put-triple .before .before in
-    at-put-triple .put-triple .ensures ∙ line-written _ _ _ (at-enum-told .before .before .before .pre) (at-enum-told .enum-told .given .1) _ _
+    let at-enum-told = c .before .before in
+    let at-start = at-enum-told .before .before in
+    c .put-triple .ensures ∙ line-written _ _ _ (at-start .pre .0) (at-enum-told .enum-told .given .1) _ _
 
 returns-2 : tie.Need-returns-2
 unfolding written
@@ -31,4 +28,10 @@ returns-2 c = rw (c .enum-told2 .given .1)
 
 pub write-line-spec : {M : Type 1} → statement M
 write-line-spec =
-    tie.close (tie.spec enum-told put-triple-requires enum-told-2 same-length returns returns-2)
+    tie.close
+    (tie.spec
+    enum-told
+    put-triple-requires
+    enum-told-2
+    returns
+    returns-2)

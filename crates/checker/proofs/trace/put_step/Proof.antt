@@ -1,6 +1,7 @@
 -- `checker::trace::put_step` meets its contract: the line's bytes spell an instruction, and are those of the step's record.
 -- Assumes nothing.
 use Rattle.checker.proofs.Laws.Records.{step-bytes, step-lines, step-put}
+use native.Mathlib.Omega.{arith}
 use borrow.Author.Needs.{needs}
 use Rattle.checker.proofs.trace.put_step.Statement.{statement}
 use Rattle.checker.proofs.trace.put_step.Tie as tie
@@ -8,18 +9,18 @@ use Rattle.checker.proofs.trace.put_step.Tie as tie
 line-offset-requires : tie.Need-line-offset-requires
 line-offset-requires c κs = search needs
 
-three-at-requires : tie.Need-three-at-requires
-three-at-requires c κs = search needs
+triple-at-requires : tie.Need-triple-at-requires
+triple-at-requires c κs = search needs
 
-three-at-requires-2 : tie.Need-three-at-requires-2
-three-at-requires-2 c κs = search needs
+triple-at-requires-2 : tie.Need-triple-at-requires-2
+triple-at-requires-2 c κs = search needs
 
 spelled-requires : tie.Need-spelled-requires
 spelled-requires c κs =
-    let at-three-at = c .before .before in
-    let at-line-offset = at-three-at .before in
-    let at-start = at-line-offset .before .before .before .before in
-    rw (at-three-at .three-at .ensures, at-line-offset .line-offset .ensures) (at-start .pre .0 .spells)
+    let at-triple-at = c .before .before .before in
+    let at-line-offset = at-triple-at .before in
+    let at-start = at-line-offset .before .before .before in
+    rw (at-triple-at .triple-at .ensures, at-line-offset .line-offset .ensures) (at-start .pre .0 .spells)
 
 step-on-requires : tie.Need-step-on-requires
 step-on-requires c κs = search needs
@@ -28,20 +29,23 @@ write-line-requires : tie.Need-write-line-requires
 write-line-requires c κs =
     let at-step-on = c .before in
     let at-spelled = at-step-on .before in
-    let at-three-at2 = at-spelled .before in
-    let at-three-at = at-three-at2 .before .before in
-    let at-line-offset = at-three-at .before in
-    step-bytes _ _ _ _ _ (at-line-offset .line-offset .ensures) _ (at-three-at .three-at .ensures) _ (at-three-at2 .three-at2 .ensures) _
-    (at-spelled .spelled .ensures) _ (at-step-on .step-on .ensures)
+    let at-triple-at2 = at-spelled .before in
+    let at-triple-at = at-triple-at2 .before .before .before in
+    let at-line-offset = at-triple-at .before in
+    let at-start = at-line-offset .before .before .before in (
+      step-bytes _ _ _ _ _ (at-line-offset .line-offset .ensures) _ (at-triple-at .triple-at .ensures) _ (at-triple-at2 .triple-at2 .ensures) _
+          (at-spelled .spelled .ensures) _ (at-step-on .step-on .ensures),
+      omega (arith, at-line-offset .line-offset .ensures, at-start .pre .0 .there, at-start .pre .1),
+    )
 
 record-of-requires : tie.Need-record-of-requires
 record-of-requires c κs =
-    let at-step-on = c .before .before .before .before .before in
+    let at-step-on = c .before .before .before in
     let at-spelled = at-step-on .before in
-    let at-three-at2 = at-spelled .before in
-    let at-three-at = at-three-at2 .before .before in
-    let at-line-offset = at-three-at .before in
-    step-bytes _ _ _ _ _ (at-line-offset .line-offset .ensures) _ (at-three-at .three-at .ensures) _ (at-three-at2 .three-at2 .ensures) _
+    let at-triple-at2 = at-spelled .before in
+    let at-triple-at = at-triple-at2 .before .before .before in
+    let at-line-offset = at-triple-at .before in
+    step-bytes _ _ _ _ _ (at-line-offset .line-offset .ensures) _ (at-triple-at .triple-at .ensures) _ (at-triple-at2 .triple-at2 .ensures) _
     (at-spelled .spelled .ensures) _ (at-step-on .step-on .ensures)
 
 slice-aggregate-put : tie.Need-slice-aggregate-put
@@ -53,22 +57,19 @@ put-requires c κs = search needs
 same-length : tie.Need-same-length
 same-length c = search needs
 
-same-length-2 : tie.Need-same-length-2
-same-length-2 c = search needs
-
 returns : tie.Need-returns
 returns c =
     let at-put = c .before .before in
     let at-record-of = at-put .before .before in
-    let at-write-line = at-record-of .before .before .before .before in
+    let at-write-line = at-record-of .before .before in
     let at-step-on = at-write-line .before .before in
     let at-spelled = at-step-on .before in
-    let at-three-at2 = at-spelled .before in
-    let at-three-at = at-three-at2 .before .before in
-    let at-line-offset = at-three-at .before in (
-      step-lines _ _ _ _ _ (at-line-offset .line-offset .ensures) _ (at-three-at .three-at .ensures) _ (at-three-at2 .three-at2 .ensures) _
+    let at-triple-at2 = at-spelled .before in
+    let at-triple-at = at-triple-at2 .before .before .before in
+    let at-line-offset = at-triple-at .before in (
+      step-lines _ _ _ _ _ (at-line-offset .line-offset .ensures) _ (at-triple-at .triple-at .ensures) _ (at-triple-at2 .triple-at2 .ensures) _
           (at-spelled .spelled .ensures) _ (at-step-on .step-on .ensures) _ (at-write-line .write-line .ensures),
-      step-put _ _ _ _ _ (at-line-offset .line-offset .ensures) _ (at-three-at .three-at .ensures) _ (at-three-at2 .three-at2 .ensures) _
+      step-put _ _ _ _ _ (at-line-offset .line-offset .ensures) _ (at-triple-at .triple-at .ensures) _ (at-triple-at2 .triple-at2 .ensures) _
           (at-spelled .spelled .ensures) _ (at-step-on .step-on .ensures) _ (at-record-of .record-of .ensures) _ _ _ (at-put .put .ensures),
     )
 
@@ -77,8 +78,8 @@ put-step-spec =
     tie.close
     (tie.spec
     line-offset-requires
-    three-at-requires
-    three-at-requires-2
+    triple-at-requires
+    triple-at-requires-2
     spelled-requires
     step-on-requires
     write-line-requires
@@ -86,5 +87,4 @@ put-step-spec =
     slice-aggregate-put
     put-requires
     same-length
-    same-length-2
     returns)

@@ -1,13 +1,13 @@
 -- `checker::trace::write_records` meets its contract: behind k steps `lines` and the plan's bytes are those of the first k bytes of the trace.
 -- Assumes nothing.
 use Prim.Native.Nat.{_-_, _≤_}
-use mathlib.Core.Path.{_≡_, refl, sym, _∙_}
+use mathlib.Core.Path.{_≡_, refl, sym, ap, _∙_}
 use native.Mathlib.Omega.{arith}
 use lib.ListN.{length}
 use borrow.Author.Needs.{needs}
 use Rattle.checker.specs.Trace.{linesAfter, Spelled}
 use Rattle.checker.specs.Plan.{closing, planSize}
-use Rattle.checker.proofs.Laws.Records.{Put, put-none, put-more, put-closing}
+use Rattle.checker.proofs.Laws.Records.{lines-length, Put, put-none, put-more, put-closing}
 use Rattle.checker.proofs.Laws.Trace.{lines-none, lines-next}
 use Rattle.checker.proofs.trace.write_records.Statement.{statement}
 use Rattle.checker.proofs.trace.write_records.Tie as tie
@@ -38,7 +38,7 @@ put-step-requires c κs =
     let at-frame-of = c .before .before in
     let at-loop-test = at-frame-of .before .before in
     let at-loop = at-loop-test .before in
-    let at-start = at-loop .before .before .before .before in
+    let at-start = at-loop .before .before .before in
     let spelled = at-start .pre .3 _ (at-loop-test .loop-test .taken) in
     let inv = at-loop .loop .inv in
     (rw (at-frame-of .frame-of .ensures) spelled, omega (arith, inv .3, at-start .pre .2), omega (arith, inv .4, at-start .pre .1))
@@ -51,16 +51,15 @@ loop-less c = omega arith
 
 loop-again : tie.Need-loop-again Inv-loop μ-loop
 loop-again c =
-    let at-put-step = c .before .before .before .before in
+    let at-put-step = c .before .before in
     let at-frame-of = at-put-step .before .before .before in
-    let at-loop-test = at-frame-of .before .before in
-    let at-loop = at-loop-test .before in
+    let at-loop = at-frame-of .before .before .before in
     let inv = at-loop .loop .inv in
     let ensured = rw (at-frame-of .frame-of .ensures) at (at-put-step .put-step .ensures) in (
       omega arith,
       rw (inv .1) at (ensured .0) ∙ sym (lines-next _ _ _ _ _),
       put-more _ _ _ _ _ _ _ _ (inv .2) (rw (inv .1) at (ensured .1)),
-      at-put-step .put-step .kept .1 .1 .1 .0 ∙ inv .3,
+      ap length (at-put-step .put-step .ensures .0) ∙ lines-length _ _ _ _ ∙ inv .3,
       at-put-step .put-step .kept .1 .1 .1 .1 .0 ∙ inv .4,
     )
 
@@ -74,14 +73,11 @@ put-requires : tie.Need-put-requires Inv-loop μ-loop
 unfolding planSize
 put-requires c κs =
     let at-loop = c .before .before .before in
-    let at-start = at-loop .before .before .before .before in
+    let at-start = at-loop .before .before .before in
     omega (arith, at-loop .loop .inv .4, at-start .pre .1)
 
 same-length : tie.Need-same-length Inv-loop μ-loop
 same-length c = search needs
-
-same-length-2 : tie.Need-same-length-2 Inv-loop μ-loop
-same-length-2 c = search needs
 
 returns : tie.Need-returns Inv-loop μ-loop
 unfolding closing
@@ -89,7 +85,7 @@ returns c =
     let at-put = c .before .before in
     let at-loop-test = at-put .before .before .before in
     let at-loop = at-loop-test .before in
-    let at-start = at-loop .before .before .before .before in
+    let at-start = at-loop .before .before .before in
     let done : at-loop .loop .k ≡ at-start .args .steps = omega (arith, at-loop-test .loop-test .left, at-loop .loop .inv .0) in
     (put-closing _ _ _ _ _ _ _ _ (rw done at (at-loop .loop .inv .2)) (at-put .put .ensures), rw done at (at-loop .loop .inv .1))
 
@@ -111,5 +107,4 @@ write-records-spec =
     slice-aggregate-put
     put-requires
     same-length
-    same-length-2
     returns)

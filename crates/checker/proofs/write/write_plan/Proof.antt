@@ -70,12 +70,14 @@ returns-3 c =
 mul-size : tie.Need-mul-size
 mul-size c =
     let at-ran = c .before in
-    omega (arith, accepted-spelled _ _ _ _ (at-ran .before .before .run .ensures .1) _ (at-ran .ran .given .1) .1)
+    let at-run = at-ran .before .before in
+    omega (arith, accepted-spelled _ _ _ _ (at-run .run .ensures .1) _ (at-ran .ran .given .1) .1)
 
 add-size : tie.Need-add-size
 add-size c =
     let at-ran = c .before in
-    omega (arith, accepted-spelled _ _ _ _ (at-ran .before .before .run .ensures .1) _ (at-ran .ran .given .1) .1)
+    let at-run = at-ran .before .before in
+    omega (arith, accepted-spelled _ _ _ _ (at-run .run .ensures .1) _ (at-ran .ran .given .1) .1)
 
 returns-4 : tie.Need-returns-4
 returns-4 c =
@@ -87,9 +89,6 @@ returns-4 c =
     let at-read-task = at-enum-told .before .before in
     buffer-small _ _ _ _ (at-read-task .read-task .ensures) _ (at-enum-told .enum-told .given .1) _ (at-check-program .check-program .ensures) _
     (at-enum-told3 .enum-told3 .given .1) _ _ (at-run .run .ensures .0 _) _ (at-ran .ran .given .1) (omega arith)
-
-slice-aggregate-write-records : tie.Need-slice-aggregate-write-records
-slice-aggregate-write-records c = search needs
 
 write-records-requires : tie.Need-write-records-requires
 unfolding planSize
@@ -114,7 +113,7 @@ same-length c = search needs
 
 returns-5 : tie.Need-returns-5
 returns-5 c =
-    let at-write-records = c .before .before .before in
+    let at-write-records = c .before .before in
     let at-if1 = at-write-records .before .before .before .before .before in
     let at-ran = at-if1 .before .before in
     let at-run = at-ran .before .before in
@@ -145,7 +144,6 @@ write-plan-spec =
     mul-size
     add-size
     returns-4
-    slice-aggregate-write-records
     write-records-requires
     same-length
     returns-5)
