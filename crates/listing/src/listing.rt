@@ -4,16 +4,21 @@ use crate::page::put;
 use crate::page::put_decimal;
 use crate::page::put_labelled;
 use crate::page::put_word;
+use records::numbers::byte_at;
+use task::bounds::Bounds;
 use task::index::Index;
 use task::instruction::Decoded;
 use task::instruction::Instruction;
 use task::instruction::Line;
 use task::instruction::Proc;
-use task::program::instruction_on;
+use task::instruction::Triple;
+use task::instruction::decode;
+use task::program::line_offset;
 use task::verdict::Verdict;
 ghost use mathlib.Core.Path.{_≡_};
 ghost use Prim.Native.Nat.{min};
 ghost use lib.ListN.{length};
+ghost use Rattle.task.specs.Program.{lineBytes, instructionOn};
 ghost use Rattle.listing.specs.Listing.{instructionText, decodedText, lineText, procedureText, listingText, reportText, filled};
 ghost use Rattle.listing.specs.Page.{page, puts};
 
@@ -44,6 +49,27 @@ fn put_decoded(text: &mut [u8], at: usize, decoded: Decoded) -> usize
     }
 }
 
+// The three bytes on a line of a procedure.
+fn line_bytes(b: Bounds, program: &[u8], procedure: u8, line: u8) -> Triple
+    ensures { λ r. ⌜ r ≡ lineBytes b (now (program .entry)) (record { 0 = procedure }) (record { 0 = line }) ⌝ }
+{
+    let at = line_offset(b, Proc(procedure), Line(line));
+    Triple {
+        op: byte_at(program, at),
+        p: byte_at(program, at + 1),
+        q: byte_at(program, at + 2),
+    }
+}
+
+// The instruction on a line of a procedure, if these bytes spell one that is allowed there.
+fn instruction_on(index: Index, program: &[u8], procedure: u8, line: u8) -> Decoded
+    ensures { λ r. ⌜ r ≡ instructionOn index (now (program .entry)) (record { 0 = procedure }) (record { 0 = line }) ⌝ }
+{
+    let bounds = index.bounds;
+    let w = line_bytes(bounds, program, procedure, line);
+    decode(bounds, index.actions, Line(line), w)
+}
+
 // One line of a procedure: its number and its instruction.
 fn put_line(
     text: &mut [u8],
@@ -57,7 +83,7 @@ fn put_line(
         page r (now (text .exit))
         ≡ puts (page at (now (text .entry))) (lineText index (now (program .entry)) procedure line) ⌝ }
 {
-    let decoded = instruction_on(index, program, Proc(procedure), Line(line));
+    let decoded = instruction_on(index, program, procedure, line);
     let behind_number = put_decimal(text, at, line as usize);
     let behind_instruction = put_decoded(text, behind_number, decoded);
     put(text, behind_instruction, b'\n')

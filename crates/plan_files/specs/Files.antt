@@ -1,5 +1,5 @@
--- A task and a plan in two files, and what is printed on them. Question 30 comes first, then those of the checker.
-use Prim.Native.Nat.{ℕ}
+-- A task and a plan in two files, what is printed on them, and how long that is. Question 30 comes first, then those of the checker.
+use Prim.Native.Nat.{ℕ, _≤_}
 use mathlib.Core.List.{List}
 use mathlib.Core.Bool.{cond, _&&_}
 use lib.ListN.{length, replicate}
@@ -30,3 +30,7 @@ unfoldable pub printed : List ℕ → List ℕ → List ℕ
 printed task plan =
     let checked = checkFiles task plan (replicate 768 0) in
     reportText (checked .verdict) (readTask task .task .index) (checked .buffer)
+
+-- whatever the files are, the program's text has room for what is printed
+abbrev pub PrintedFits : Type 0
+PrintedFits = (task plan : List ℕ) → length (printed task plan) ≤ 4096

@@ -5,7 +5,7 @@ use listing::listing::report;
 use task::reading::read_task;
 use task::verdict::Verdict;
 ghost use mathlib.Core.Path.{_≡_};
-ghost use Prim.Native.Nat.{min};
+ghost use Prim.Native.Nat.{min, _≤_};
 ghost use lib.ListN.{length};
 ghost use Rattle.io.specs.Counts.{Counts};
 ghost use Rattle.listing.specs.Listing.{filled};
@@ -42,11 +42,12 @@ fn check_bytes(task: &[u8], plan: &[u8], program: &mut [u8]) -> Verdict
     check_plan(task, plan, program)
 }
 
-// Writes what is printed on a task's and a plan's bytes at the start of a text, and answers how many bytes it wrote.
+// Writes what is printed on a task's and a plan's bytes at the start of a text, and answers how many bytes it wrote: all, where the text has 4,096.
 pub fn print_check(task: &[u8], plan: &[u8], text: &mut [u8]) -> usize
     ensures { λ r. ⌜
         (r ≡ min (length (printed (now (task .entry)) (now (plan .entry)))) (length (now (text .entry))))
-        × (now (text .exit) ≡ filled (printed (now (task .entry)) (now (plan .entry))) (now (text .entry))) ⌝ }
+        × (now (text .exit) ≡ filled (printed (now (task .entry)) (now (plan .entry))) (now (text .entry)))
+        × (4096 ≤ length (now (text .entry)) → r ≡ length (printed (now (task .entry)) (now (plan .entry)))) ⌝ }
 {
     let mut program = [0u8; 768];
     let verdict = check_bytes(task, plan, &mut program);
@@ -74,7 +75,7 @@ fn read_file(path: &[u8], space: &mut [u8]) -> usize
     size
 }
 
-// Prints the report; 4,096 bytes have room for the longest listing, 8 procedures of 32 lines.
+// Prints the report, all of it.
 fn write_report(task: &[u8], plan: &[u8]) {
     let mut text = io::buffer();
     let size = print_check(task, plan, &mut text);

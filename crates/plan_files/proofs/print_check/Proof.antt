@@ -1,7 +1,8 @@
--- `plan_files::print_check` meets its contract: what is printed is the report on the checker's verdict, and the program is in its buffer.
+-- `plan_files::print_check` meets its contract: what is printed is the report on the checker's verdict, and the program is in its buffer; 4,096 bytes have room for all of it.
 -- Assumes nothing.
 use borrow.Author.Needs.{needs}
 use Rattle.plan_files.proofs.Laws.Files.{report-printed}
+use Rattle.plan_files.proofs.Laws.Printed.{all-printed}
 use Rattle.plan_files.proofs.print_check.Statement.{statement}
 use Rattle.plan_files.proofs.print_check.Tie as tie
 
@@ -29,7 +30,8 @@ returns c =
     let at-read-task = at-report .before .before .before .before in
     let at-check-bytes = at-read-task .before .before in
     let same = report-printed _ _ _ _ (at-check-bytes .check-bytes .ensures) (at-read-task .read-task .ensures) in
-    (rw same at (at-report .report .ensures .0), rw same at (at-report .report .ensures .1))
+    let size = rw same at (at-report .report .ensures .0) in
+    (size, rw same at (at-report .report .ensures .1), all-printed _ _ _ _ size)
 
 pub print-check-spec : {M : Type 1} → statement M
 print-check-spec =
