@@ -79,7 +79,7 @@ record Small (s : State) : Type 0 where
   size : length (s .presets) ≡ 768
   procedures : s .progress .index .bounds .procedures ≤ 8
   last : s .progress .index .bounds .last ≤ 31
-  first : least (s .progress .section) ≤ 1 → s .progress .at ≡ 0
+  first : least (s .progress .last) ≤ 1 → s .progress .at ≡ 0
   room : s .progress .at + 9 * free (s .presets) 256 + 276 * (64 - s .progress .index .actions) + 28 * (32 - s .progress .index .cases) ≤ most
 
 begin-small : Small begin

@@ -89,7 +89,7 @@ written-lawful b actions f w t e presets room l =
 -- a state that the reading may come to: there is no preset before the section of the presets
 record Reached (s : State) : Type 0 where
   room : programSize (s .progress .index .bounds) ≤ length (s .presets)
-  none : least (s .progress .section) ≤ 2 → s .presets ≡ replicate 768 0
+  none : least (s .progress .last) ≤ 2 → s .presets ≡ replicate 768 0
   lawful : Lawful (s .progress .index .bounds) (s .progress .index .actions) (s .presets)
 
 begin-reached : Reached begin
@@ -113,7 +113,7 @@ ask-kept : (answer : Bool) (question place : ℕ) (rest : Turn State Reading) �
 ask-kept answer question place rest k = ask-keeps Reached Sound answer _ rest (refused-sound question place) k
 
 module _ (bytes : List ℕ) (s : State) (reached : Reached s) where
-  header-kept : (body next : ℕ) → Follows (s .progress .section) 1 → Kept (headerTurn bytes s body next)
+  header-kept : (body next : ℕ) → Follows (s .progress .last) 1 → Kept (headerTurn bytes s body next)
   unfolding headerTurn
   header-kept body next f =
       ask-kept _ _ _ _ λ h.
@@ -124,7 +124,7 @@ module _ (bytes : List ℕ) (s : State) (reached : Reached s) where
         lawful = zeros-lawful _ _ _ zeros;
       }
 
-  action-kept : (body size next : ℕ) → Follows (s .progress .section) 2 → Kept (actionTurn bytes s body size next)
+  action-kept : (body size next : ℕ) → Follows (s .progress .last) 2 → Kept (actionTurn bytes s body size next)
   unfolding actionTurn
   action-kept body size next f =
       ask-kept _ _ _ _ λ h.
