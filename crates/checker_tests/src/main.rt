@@ -8,7 +8,7 @@ use checker::write::write_plan;
 use libc::STDIN_FILENO;
 use libc::STDOUT_FILENO;
 use records::numbers::byte_at;
-use records::numbers::u16_at;
+use records::numbers::two_at;
 use std::num::wrapping_add_u64;
 use task::verdict::Verdict;
 
@@ -107,8 +107,8 @@ fn answer_request(kind: u16, size: usize, space: &mut [u8], lent: &mut [u8]) -> 
     if io::read_full(STDIN_FILENO, &mut head) < 4 {
         return false;
     }
-    let task = u16_at(&head, 0) as usize;
-    let buffer = u16_at(&head, 2) as usize;
+    let task = two_at(&head, 0) as usize;
+    let buffer = two_at(&head, 2) as usize;
     if size < 4 + buffer {
         return false;
     }
@@ -129,8 +129,8 @@ fn answer_one(space: &mut [u8], lent: &mut [u8]) -> bool {
     if io::read_full(STDIN_FILENO, &mut head) < 4 {
         return false;
     }
-    let size = u16_at(&head, 0) as usize;
-    let kind = u16_at(&head, 2);
+    let size = two_at(&head, 0) as usize;
+    let kind = two_at(&head, 2);
     if kind != 0 {
         return answer_request(kind, size, space, lent);
     }

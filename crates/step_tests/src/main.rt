@@ -1,4 +1,4 @@
-// Runs stored positions through the single step of a run record and writes what it answers.
+// Runs stored positions through the single step of a run and writes what it answers.
 //
 // The input is a run of records. Kind 0: text, written as it is. Kind 65535: a program's length (2 bytes), the program and a task; the writer
 // answers, and if it accepts, as many single steps as its plan has are made from the first case's start, each behind the plan's own step, and one
@@ -9,18 +9,19 @@ use checker::write::write_plan;
 use libc::STDIN_FILENO;
 use libc::STDOUT_FILENO;
 use records::numbers::byte_at;
-use records::numbers::u16_at;
-use records::numbers::u64_at;
+use records::numbers::eight_at;
+use records::numbers::two_at;
 use step::position::Frame;
 use step::position::Position;
-use step::single::step_copy;
+use step::single::single_step;
+use task::index::Index;
 use task::index::case_at;
 use task::instruction::Line;
 use task::instruction::Proc;
-use task::instruction::triple_at;
 use task::reading::read_task;
 use task::verdict::Verdict;
-ghost use Prim.Native.Nat.{_≤_};
+ghost use Prim.Native.Nat.{_+_, _≤_};
+ghost use lib.ListN.{length};
 
 // The most steps of a run beside its plan, and the bytes of such a plan: 9 for each step, and the closing record.
 const STEPS: usize = 100;
@@ -67,7 +68,7 @@ fn write_position(position: Position) {
     write(b"\n");
 }
 
-// The sixteen frames of a request.
+// The sixteen frames of a request; (0, 0) where it has none.
 fn frames_of(bytes: &[u8]) -> [Frame; 16] {
     let mut frames = [Frame {
         procedure: Proc(0),
@@ -82,11 +83,13 @@ fn frames_of(bytes: &[u8]) -> [Frame; 16] {
     frames
 }
 
-fn position_of(bytes: &[u8]) -> Position {
+fn position_of(bytes: &[u8]) -> Position
+    requires { ⌜ 44 ≤ length (now bytes) ⌝ }
+{
     let frames = frames_of(bytes);
     Position {
-        facts: u64_at(bytes, 0),
-        steps: u16_at(bytes, 8),
+        facts: eight_at(bytes, 0),
+        steps: two_at(bytes, 8),
         case: byte_at(bytes, 10),
         depth: byte_at(bytes, 11),
         frames,
@@ -95,7 +98,7 @@ fn position_of(bytes: &[u8]) -> Position {
 
 // Makes one step, writes its answer, and gives the position after it.
 fn write_step(task: &[u8], program: &[u8], position: Position) -> Position {
-    let stepped = step_copy(task, program, position);
+    let stepped = single_step(task, program, position);
     let verdict = stepped.verdict;
     let next = stepped.position;
     write_verdict(verdict);
@@ -111,11 +114,13 @@ fn write_steps(count: u16, task: &[u8], program: &[u8], first: Position) {
 }
 
 fn write_request(count: u16, bytes: &[u8]) {
-    let size = u16_at(bytes, 44) as usize;
-    if bytes.len() < 46 + size {
+    if bytes.len() < 46 {
         return;
     }
-    let end = 46 + size;
+    let end = 46 + two_at(bytes, 44) as usize;
+    if bytes.len() < end {
+        return;
+    }
     write_steps(count, &bytes[end..], &bytes[46..end], position_of(bytes));
 }
 
@@ -123,12 +128,11 @@ fn write_request(count: u16, bytes: &[u8]) {
 fn write_planned(plan: &[u8], at: usize)
     requires { ⌜ at ≤ 900 ⌝ }
 {
-    let w = triple_at(plan, at + 6);
     write_number(b"", byte_at(plan, at + 4) as u64);
     write_number(b",", byte_at(plan, at + 5) as u64);
-    write_number(b" ", w.op as u64);
-    write_number(b" ", w.p as u64);
-    write_number(b" ", w.q as u64);
+    write_number(b" ", byte_at(plan, at + 6) as u64);
+    write_number(b" ", byte_at(plan, at + 7) as u64);
+    write_number(b" ", byte_at(plan, at + 8) as u64);
     write(b": ");
 }
 
@@ -144,7 +148,43 @@ fn write_run(task: &[u8], program: &[u8], plan: &[u8], steps: usize, first: Posi
     position
 }
 
-// The run of a program beside the plan that the writer gives, to the finish and one call beyond.
+// The first case's start, given where its record is.
+fn first_position(task: &[u8], at: usize) -> Position
+    requires { ⌜ at + 28 ≤ length (now task) ⌝ }
+{
+    let first = case_at(task, at, 0);
+    let frames = frames_of(b"");
+    Position {
+        facts: first.start,
+        steps: 0,
+        case: 0,
+        depth: 1,
+        frames,
+    }
+}
+
+// The run beside a plan of so many steps, to the finish and one call beyond.
+fn write_to_the_finish(task: &[u8], program: &[u8], plan: &[u8], steps: usize, index: Index)
+    requires { ⌜ steps ≤ 100 ⌝ }
+{
+    let at = index.first;
+    if task.len() < 28 {
+        return;
+    }
+    // The first case's record is there in a task that passes.
+    if task.len() - 28 < at {
+        return;
+    }
+    let last = write_run(task, program, plan, steps, first_position(task, at));
+    if last.case == index.cases {
+        write(b"finished: ");
+    } else {
+        write(b"not finished: ");
+    }
+    write_step(task, program, last);
+}
+
+// The run of a program beside the plan that the writer gives.
 fn write_beside(task: &[u8], program: &[u8]) {
     let mut plan = [0u8; PLAN];
     let verdict = write_plan(task, program, &mut plan);
@@ -159,32 +199,17 @@ fn write_beside(task: &[u8], program: &[u8]) {
     }
     let reading = read_task(task);
     let read = reading.task;
-    let index = read.index;
-    let at = index.first;
-    if task.len() < 28 {
-        return;
-    }
-    // The first case's record is there in a task that passes.
-    if task.len() - 28 < at {
-        return;
-    }
-    let first = case_at(task, at, 0);
-    let fresh = Position::starting(0, first.start);
-    let last = write_run(task, program, &plan, steps, fresh);
-    if last.case == index.cases {
-        write(b"finished: ");
-    } else {
-        write(b"not finished: ");
-    }
-    write_step(task, program, last);
+    write_to_the_finish(task, program, &plan, steps, read.index);
 }
 
 fn write_run_request(bytes: &[u8]) {
-    let size = u16_at(bytes, 0) as usize;
-    if bytes.len() < 2 + size {
+    if bytes.len() < 2 {
         return;
     }
-    let end = 2 + size;
+    let end = 2 + two_at(bytes, 0) as usize;
+    if bytes.len() < end {
+        return;
+    }
     write_beside(&bytes[end..], &bytes[2..end]);
 }
 
@@ -204,8 +229,8 @@ fn answer_one(space: &mut [u8]) -> bool {
     if io::read_full(STDIN_FILENO, &mut head) < 4 {
         return false;
     }
-    let size = u16_at(&head, 0) as usize;
-    let kind = u16_at(&head, 2);
+    let size = two_at(&head, 0) as usize;
+    let kind = two_at(&head, 2);
     if space.len() < size {
         return false;
     }

@@ -6,7 +6,7 @@
 use libc::STDIN_FILENO;
 use libc::STDOUT_FILENO;
 use records::numbers::byte_at;
-use records::numbers::u16_at;
+use records::numbers::two_at;
 use task::bounds::Bounds;
 use task::facts::Literals;
 use task::index::action_at;
@@ -139,11 +139,13 @@ fn write_task(bytes: &[u8]) {
 }
 
 fn write_program(bytes: &[u8]) {
-    let size = u16_at(bytes, 0) as usize;
-    if bytes.len() < 2 + size {
+    if bytes.len() < 2 {
         return;
     }
-    let end = 2 + size;
+    let end = 2 + two_at(bytes, 0) as usize;
+    if bytes.len() < end {
+        return;
+    }
     let program = &bytes[2..end];
     let reading = read_task(&bytes[end..]);
     let task = reading.task;
@@ -151,7 +153,9 @@ fn write_program(bytes: &[u8]) {
     write_verdict(check_program(task.index, &presets, program));
 }
 
-fn write_record(kind: u16, body: &[u8]) {
+// Reads a record's body and answers it.
+fn answer_body(kind: u16, body: &mut [u8]) {
+    io::read_full(STDIN_FILENO, body);
     match kind {
         0 => write(body),
         1 => {
@@ -164,20 +168,14 @@ fn write_record(kind: u16, body: &[u8]) {
     }
 }
 
-// Reads a record's body and answers it.
-fn answer_body(kind: u16, body: &mut [u8]) {
-    io::read_full(STDIN_FILENO, body);
-    write_record(kind, body);
-}
-
 // Reads one record and answers it; false at the end of the input.
 fn answer_one(space: &mut [u8]) -> bool {
     let mut head = [0u8; 4];
     if io::read_full(STDIN_FILENO, &mut head) < 4 {
         return false;
     }
-    let size = u16_at(&head, 0) as usize;
-    let kind = u16_at(&head, 2);
+    let size = two_at(&head, 0) as usize;
+    let kind = two_at(&head, 2);
     if space.len() < size {
         return false;
     }

@@ -15,20 +15,20 @@ read-full-requires c κs = search needs
 returns : tie.Need-returns
 returns c = search needs
 
-slice-aggregate-u16-at : tie.Need-slice-aggregate-u16-at
-slice-aggregate-u16-at c = search needs
+slice-aggregate-two-at : tie.Need-slice-aggregate-two-at
+slice-aggregate-two-at c = search needs
 
-u16-at-requires : tie.Need-u16-at-requires
-u16-at-requires c κs = search needs
+two-at-requires : tie.Need-two-at-requires
+two-at-requires c κs = search needs
 
 cast-task : tie.Need-cast-task
 cast-task c = search needs
 
-slice-aggregate-u16-at-2 : tie.Need-slice-aggregate-u16-at-2
-slice-aggregate-u16-at-2 c = search needs
+slice-aggregate-two-at-2 : tie.Need-slice-aggregate-two-at-2
+slice-aggregate-two-at-2 c = search needs
 
-u16-at-requires-2 : tie.Need-u16-at-requires-2
-u16-at-requires-2 c κs = search needs
+two-at-requires-2 : tie.Need-two-at-requires-2
+two-at-requires-2 c κs = search needs
 
 cast-buffer : tie.Need-cast-buffer
 cast-buffer c = search needs
@@ -82,11 +82,11 @@ answer-request-spec =
     slice-aggregate-read-full
     read-full-requires
     returns
-    slice-aggregate-u16-at
-    u16-at-requires
+    slice-aggregate-two-at
+    two-at-requires
     cast-task
-    slice-aggregate-u16-at-2
-    u16-at-requires-2
+    slice-aggregate-two-at-2
+    two-at-requires-2
     cast-buffer
     add-if2
     returns-2

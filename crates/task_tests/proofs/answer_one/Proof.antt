@@ -15,20 +15,20 @@ read-full-requires c κs = search needs
 returns : tie.Need-returns
 returns c = search needs
 
-slice-aggregate-u16-at : tie.Need-slice-aggregate-u16-at
-slice-aggregate-u16-at c = search needs
+slice-aggregate-two-at : tie.Need-slice-aggregate-two-at
+slice-aggregate-two-at c = search needs
 
-u16-at-requires : tie.Need-u16-at-requires
-u16-at-requires c κs = search needs
+two-at-requires : tie.Need-two-at-requires
+two-at-requires c κs = search needs
 
 cast-size : tie.Need-cast-size
 cast-size c = search needs
 
-slice-aggregate-u16-at-2 : tie.Need-slice-aggregate-u16-at-2
-slice-aggregate-u16-at-2 c = search needs
+slice-aggregate-two-at-2 : tie.Need-slice-aggregate-two-at-2
+slice-aggregate-two-at-2 c = search needs
 
-u16-at-requires-2 : tie.Need-u16-at-requires-2
-u16-at-requires-2 c κs = search needs
+two-at-requires-2 : tie.Need-two-at-requires-2
+two-at-requires-2 c κs = search needs
 
 returns-2 : tie.Need-returns-2
 returns-2 c = search needs
@@ -55,11 +55,11 @@ answer-one-spec =
     slice-aggregate-read-full
     read-full-requires
     returns
-    slice-aggregate-u16-at
-    u16-at-requires
+    slice-aggregate-two-at
+    two-at-requires
     cast-size
-    slice-aggregate-u16-at-2
-    u16-at-requires-2
+    slice-aggregate-two-at-2
+    two-at-requires-2
     returns-2
     slice-relend-prefix-answer-body
     slice-aggregate-answer-body
