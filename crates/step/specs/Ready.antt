@@ -60,7 +60,7 @@ Known i w = (action : ℕ) → w ≡ Act action → action < i .actions
 abbrev pub Room : Index → ℕ → Instruction → Type 0
 Room i depth w = (procedure : Proc) → w ≡ Call procedure → depth < i .bounds .stack
 
--- one whose instruction no question turns down: fewer than S steps are done, and a call has room for its frame
+-- what the move at such a position requires: fewer than S steps are done, and a call has room for its frame
 pub record Movable (i : Index) (program : List ℕ) (s : Position) : Type 0 where
   pub left : s .steps < i .bounds .steps
   pub room : (w : Instruction) → OnLine i program s w → Room i (s .depth) w

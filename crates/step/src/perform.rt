@@ -32,7 +32,7 @@ ghost use Rattle.step.specs.Ready.{Held, Runs, OnLine, Movable, Known};
 ghost use Rattle.step.specs.declared.position.Position.{Position};
 ghost use Rattle.step.specs.Perform.{act, call, end, perform, runStep, answered};
 
-// The answer to questions 19 to 22, and 28: the first that says no, or the facts after an action; any other instruction leaves them.
+// The answer to a step's questions, 14, 28 and 19 to 22: the first that says no, or the facts after an action; any other instruction leaves them.
 pub enum Asked {
     No(u8),
     Facts(u64),

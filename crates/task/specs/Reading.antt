@@ -160,7 +160,7 @@ closeTurn bytes s next =
     ask (eqb next (length bytes)) (refused CLOSED next)
     (stop (accepted (record { index = s .progress .index; offsets = s .offsets; presets = s .presets })))
 
--- what the record's kind asks
+-- what the record's kind asks; question 2 lets no other kind than 5 come to the last
 unfoldable pub kindTurn : List ℕ → State → ℕ → ℕ → ℕ → ℕ → Turn State Reading
 kindTurn bytes s kind body size next =
     byKind kind
