@@ -78,6 +78,7 @@ poppedHead h below = placed h (h .depth - 1) below
 unfoldable pub headWith : Head → ℕ → Head
 headWith h facts = record { facts = facts; steps = h .steps; case = h .case; depth = h .depth; procedure = h .procedure; line = h .line }
 
+-- the next case: its number grows by 1, with this depth and these facts, at line 0 of procedure 0
 abbrev pub caseHead : Head → ℕ → ℕ → Head
 caseHead h depth facts =
     record { facts = facts; steps = h .steps; case = h .case + 1; depth = depth; procedure = record { 0 = 0 }; line = record { 0 = 0 } }
