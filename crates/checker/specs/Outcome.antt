@@ -1,26 +1,34 @@
 -- How the checker's and the writer's own answers stand to the definitions. Only contracts of private functions cite it.
-use Prim.Native.Nat.{ℕ, _<_}
+use Prim.Native.Nat.{ℕ, _+_, _≤_, _<_}
 use mathlib.Core.Path.{_≡_}
-use mathlib.Core.Bool.{true}
+use mathlib.Core.Bool.{Bool, true, cond, _||_}
 use mathlib.Core.List.{List}
-use Rattle.records.specs.Loop.{Turn, stop, go}
-use Rattle.task.specs.Program.{programVerdict}
+use lib.Dec.{eqb}
+use Rattle.records.specs.Loop.{Turn, stop, ask}
+use Rattle.task.specs.Program.{lineOffset, programVerdict}
 use Rattle.task.specs.Reading.{readTask}
-use Rattle.task.specs.Instruction.{allowed}
+use Rattle.task.specs.Instruction.{allowed, encode, tripleAt}
 use Rattle.task.specs.declared.index.Index.{Index}
 use Rattle.task.specs.declared.index.Task.{Task}
 use Rattle.task.specs.declared.instruction.Instruction.{Instruction}
+use Rattle.task.specs.declared.instruction.Triple.{Triple}
 use Rattle.task.specs.declared.verdict.Verdict.{Verdict}
 use Rattle.task.specs.declared.verdict.Verdict.the-variants.{Accepted, Refused}
-use Rattle.step.specs.Moved.{movedBy}
-use Rattle.step.specs.Position.{counted}
+use Rattle.step.specs.Perform.{perform}
+use Rattle.step.specs.Position.{top}
+use Rattle.step.specs.Questions.{STEPS}
 use Rattle.step.specs.Ready.{Room}
 use Rattle.step.specs.declared.head.Head.{Head}
+use Rattle.step.specs.declared.perform.Asked.{Asked}
+use Rattle.step.specs.declared.perform.Asked.the-variants.{No, Facts}
 use Rattle.step.specs.declared.position.Position.{Position}
 use Rattle.checker.specs.Answer.{Result, refused, accepted}
-use Rattle.checker.specs.Check.{State}
-use Rattle.checker.specs.declared.check.Outcome.{Outcome}
-use Rattle.checker.specs.declared.check.Outcome.the-variants.{Next, Stopped, Closed}
+use Rattle.checker.specs.Check.{State, lineFits, written, onMove, closeTurn}
+use Rattle.checker.specs.Plan.{instructionOf, isKind, lengthFits}
+use Rattle.checker.specs.Questions.{PLAN-KIND, PLAN-LENGTH, LINE}
+use Rattle.checker.specs.declared.check.Read.{Read}
+use Rattle.checker.specs.declared.check.Read.the-variants.{Stopped, Closing, Ready}
+use Rattle.checker.specs.declared.plan.Step.{Step}
 
 -- a task file that passes, and what was read from it
 pub record ReadAs (bytes : List ℕ) (t : Task) : Type 0 where
@@ -38,26 +46,48 @@ pub record Askable (i : Index) (h : Head) (w : Instruction) : Type 0 where
   pub left : h .steps < i .bounds .steps
   pub allowed : allowed (i .bounds) (i .actions) (h .line) w ≡ true
 
--- what is known of a step that no question turns down: it was askable, and a call's frame has room
-unfoldable pub Passes : Index → Head → Outcome → Type 0
-Passes i h (Next next w facts) = Askable i h w × Room i (h .depth) w
-Passes i h (Stopped question place) = Unit {0}
-Passes i h Closed = Unit {0}
+-- what is known of a step that questions 11 to 17 let pass: it is askable, its three bytes spell its instruction, and its line is in the program
+pub record StepReady (i : Index) (h : Head) (step : Step) (w : Triple) : Type 0 where
+  pub askable : Askable i h (instructionOf step)
+  pub spells : w ≡ encode (instructionOf step)
+  pub there : lineOffset (i .bounds) (h .procedure) (h .line) + 3 ≤ 768
 
--- the turn that an outcome stands for, given the position before it and the program after it
-unfoldable pub turned : List ℕ → Index → Position → Outcome → List ℕ → Turn State Result
-turned bytes i s (Next next w facts) program = go (state next (counted (movedBy bytes i s facts w)) program)
-turned bytes i s (Stopped question place) program = stop (refused question place)
-turned bytes i s Closed program = stop (accepted (s .steps) program)
+unfoldable pub ReadyAt : Index → Head → Read → Type 0
+ReadyAt i h (Stopped question) = Unit {0}
+ReadyAt i h (Closing next) = Unit {0}
+ReadyAt i h (Ready step w next) = StepReady i h step w
+
+-- after questions 19 to 22 a call's frame has room
+unfoldable pub HasRoom : Index → Head → Step → Asked → Type 0
+HasRoom i h step (No question) = Unit {0}
+HasRoom i h step (Facts facts) = Room i (h .depth) (instructionOf step)
+
+-- questions 12 to 14, given whether a step is left: the first that says no, or 0
+unfoldable pub shapeNo : ℕ → ℕ → Bool → ℕ
+shapeNo kind size left =
+    cond (isKind kind) (cond (lengthFits kind size) (cond (eqb kind 5 || left) 0 STEPS) PLAN-LENGTH) PLAN-KIND
+
+-- what is left of a step's turn on the top frame's line: question 18, and what its instruction asks
+unfoldable pub lineTurn : List ℕ → Index → List ℕ → State → ℕ → Step → Turn State Result
+lineTurn bytes i offsets s next step =
+    let f = top (s .position) in
+    let offset = lineOffset (i .bounds) (f .procedure) (f .line) in
+    ask (lineFits (tripleAt (s .program) offset) step) (refused LINE (s .at))
+    (onMove (s .at) next (written (s .program) offset step) (perform bytes i offsets (s .position) (instructionOf step)))
+
+-- the turn that a record stands for, as far as it was read
+unfoldable pub readTurn : List ℕ → Index → List ℕ → List ℕ → State → Read → Turn State Result
+readTurn bytes i offsets plan s (Stopped question) = stop (refused question (s .at))
+readTurn bytes i offsets plan s (Closing next) = closeTurn i plan s next
+readTurn bytes i offsets plan s (Ready step w next) = lineTurn bytes i offsets s next step
 
 -- what a plan comes to, by its verdict and the program at the end
 unfoldable pub followedBy : Verdict → List ℕ → Result
 followedBy (Refused question place) program = refused question place
 followedBy (Accepted steps) program = accepted steps program
 
--- a task that passes, with this index and these offsets, and a program that passes 25 to 27 beside its presets
-pub record RunsOf (bytes : List ℕ) (i : Index) (offsets program : List ℕ) : Type 0 where
-  pub presets : List ℕ
-  pub read : ReadAs bytes (record { index = i; offsets = offsets; presets = presets })
+-- a task that passes, and a program that passes 25 to 27
+pub record RunsOf (bytes : List ℕ) (t : Task) (program : List ℕ) : Type 0 where
+  pub read : ReadAs bytes t
   pub value : ℕ
-  pub passes : programVerdict i presets program ≡ Accepted value
+  pub passes : programVerdict (t .index) (t .presets) program ≡ Accepted value

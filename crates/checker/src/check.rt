@@ -23,8 +23,6 @@ use step::position::Frame;
 use step::questions::STEPS;
 use task::bounds::line_count;
 use task::index::Index;
-use task::index::case_at;
-use task::instruction::Instruction;
 use task::instruction::Line;
 use task::instruction::Proc;
 use task::instruction::Triple;
@@ -40,47 +38,43 @@ ghost use mathlib.Core.Bool.{true};
 ghost use Prim.Native.Nat.{ℕ, _+_, _≤_, _<_};
 ghost use mathlib.Core.List.{List};
 ghost use lib.ListN.{length};
-ghost use Rattle.task.specs.Instruction.{allowed, encode};
-ghost use Rattle.task.specs.Program.{lineOffset};
+ghost use Rattle.records.specs.Loop.{stop};
+ghost use Rattle.task.specs.Bounds.{inRange};
+ghost use Rattle.task.specs.Instruction.{encode};
 ghost use Rattle.step.specs.Head.{Stands};
-ghost use Rattle.step.specs.Position.{sameFrame};
 ghost use Rattle.step.specs.Ready.{Held};
-ghost use Rattle.step.specs.Perform.{perform};
+ghost use Rattle.step.specs.Moved.{performedAs};
 ghost use Rattle.step.specs.declared.head.Head.{Head};
 ghost use Rattle.step.specs.declared.position.Frame.{Frame};
 ghost use Rattle.step.specs.declared.position.Position.{Position};
-ghost use Rattle.checker.specs.Answer.{filled};
-ghost use Rattle.checker.specs.Check.{lineFits, written, onMove, onStep, stepTurn, closeTurn, turnOf, follow, check};
-ghost use Rattle.checker.specs.Outcome.{ReadAs, Askable, Passes, state, turned, followedBy};
-ghost use Rattle.checker.specs.Plan.{instructionOf, isKind, lengthFits};
+ghost use Rattle.checker.specs.Check.{lineFits, written, onMove, stepTurn, closeTurn, turnOf, follow, check};
+ghost use Rattle.checker.specs.Outcome.{ReadAs, StepReady, ReadyAt, HasRoom, state, shapeNo, lineTurn, readTurn, followedBy};
+ghost use Rattle.checker.specs.Plan.{instructionOf};
+ghost use Rattle.checker.specs.Trace.{withBytes};
 
-// What one record leads to: a step that no question turns down, with the next record's offset, its instruction and the facts after an action; a
-// question that says no and its place; or the end of the plan.
-pub enum Outcome {
-    Next(usize, Instruction, u64),
-    Stopped(u8, usize),
-    Closed,
+// What stands at an offset of the plan, after questions 11 to 17: a question that says no; the closing record, with the offset after it; or a step
+// of the top frame's line, with its instruction's three bytes and the next record's offset.
+pub enum Read {
+    Stopped(u8),
+    Closing(usize),
+    Ready(Step, Triple, usize),
 }
 
-// Question 12.
-fn is_kind(kind: u16) -> bool
-    ensures { λ r. ⌜ r ≡ isKind kind ⌝ }
+// Questions 12 to 14 of a record, given whether a step is left: the first that says no, or 0.
+fn shape_no(kind: u16, size: usize, left: bool) -> u8
+    ensures { λ r. ⌜ r ≡ shapeNo kind size left ⌝ }
 {
-    ((16 <= kind) & (kind <= 17)) | (kind == 5)
-}
-
-// Question 13.
-fn length_fits(kind: u16, size: usize) -> bool
-    ensures { λ r. ⌜ r ≡ lengthFits kind size ⌝ }
-{
-    if kind == 5 { size == 0 } else { size == 5 }
-}
-
-// Question 17.
-fn same_frame(f: Frame, g: Frame) -> bool
-    ensures { λ r. ⌜ r ≡ sameFrame f g ⌝ }
-{
-    (f.procedure.0 == g.procedure.0) & (f.line.0 == g.line.0)
+    if kind == 5 {
+        if size == 0 { 0 } else { PLAN_LENGTH }
+    } else if !((16 <= kind) & (kind <= 17)) {
+        PLAN_KIND
+    } else if size != 5 {
+        PLAN_LENGTH
+    } else if left {
+        0
+    } else {
+        STEPS
+    }
 }
 
 // Question 18, given the three bytes on the step's line and those of its instruction.
@@ -105,162 +99,69 @@ pub(crate) fn write_line(program: &mut [u8; 768], at: usize, step: Step, w: Trip
     }
 }
 
-// The closing record: questions 23 and 24.
-fn close(index: Index, plan: &[u8], at: usize, case: u8, next: usize) -> Outcome
-    ensures { λ r. ⌜ ((bytes program : List ℕ) (s : Position) →
-        s .case ≡ case → turned bytes index s r program ≡ closeTurn index (now (plan .entry)) (state at s program) next)
-        × ((h : Head) → Passes index h r) ⌝ }
+// The closing record, in a plan of so many bytes: questions 23 and 24.
+fn close(index: Index, size: usize, at: usize, case: u8, steps: u16, next: usize) -> Verdict
+    ensures { λ r. ⌜ ((plan program : List ℕ) (s : Position) →
+        length plan ≡ size
+        → s .case ≡ case
+        → s .steps ≡ steps
+        → stop (followedBy r program) ≡ closeTurn index plan (state at s program) next) ⌝ }
 {
     if case != index.cases {
-        return Outcome::Stopped(FINISHED, at);
+        return Verdict::Refused {
+            question: FINISHED,
+            place: at,
+        };
     }
-    if next != plan.len() {
-        return Outcome::Stopped(PLAN_CLOSED, next);
+    if next != size {
+        return Verdict::Refused {
+            question: PLAN_CLOSED,
+            place: next,
+        };
     }
-    Outcome::Closed
-}
-
-// A step's instruction: questions 19 to 22.
-fn make_step(
-    task: &[u8],
-    index: Index,
-    offsets: &[usize; 64],
-    at: usize,
-    head: Head,
-    next: usize,
-    w: Instruction,
-) -> Outcome
-    requires { ⌜ Held (now task) index (now offsets) × Askable index head w ⌝ }
-    ensures { λ r. ⌜ ((program : List ℕ) (callers : List Frame) (s : Position) →
-        Stands head callers s
-        → turned (now (task .entry)) index s r program
-        ≡ onMove at next program (perform (now (task .entry)) index (now (offsets .entry)) s w))
-        × Passes index head r ⌝ }
-{
-    let asked = ask(task, index, offsets, head.facts, head.case, head.depth, w);
-    match asked {
-        Asked::No(question) => Outcome::Stopped(question, at),
-        Asked::Facts(facts) => Outcome::Next(next, w, facts),
+    Verdict::Accepted {
+        value: steps as usize,
     }
 }
 
-// A step at a frame, with its instruction's three bytes: questions 16 to 22. A write fills its line.
-fn take_step(
-    task: &[u8],
-    index: Index,
-    offsets: &[usize; 64],
-    at: usize,
-    head: Head,
-    next: usize,
-    frame: Frame,
-    step: Step,
-    w: Triple,
-    program: &mut [u8; 768],
-) -> Outcome
-    requires { ⌜ Held (now task) index (now offsets) × (head .steps < index .bounds .steps)
-        × (allowed (index .bounds) (index .actions) (frame .line) (instructionOf step) ≡ true)
-        × (w ≡ encode (instructionOf step))
-        × (lineOffset (index .bounds) (frame .procedure) (frame .line) + 3 ≤ length (now program)) ⌝ }
-    ensures { λ r. ⌜ ((callers : List Frame) (s : Position) →
+// A step's body: questions 15 to 17.
+fn read_step(index: Index, plan: &[u8], head: Head, kind: u16, body: usize, next: usize) -> Read
+    requires { ⌜ (inRange (index .bounds) ≡ true) × (head .steps < index .bounds .steps) × (body + 5 ≤ length (now plan)) ⌝ }
+    ensures { λ r. ⌜ ((bytes offsets program : List ℕ) (at : ℕ) (callers : List Frame) (s : Position) →
         Stands head callers s
-        → turned (now (task .entry)) index s r (now (program .exit))
-        ≡ onStep (now (task .entry)) index (now (offsets .entry)) (state at s (now (program .entry))) next frame step)
-        × Passes index head r × (length (now (program .exit)) ≡ length (now (program .entry))) ⌝ }
+        → readTurn bytes index offsets (now (plan .entry)) (state at s program) r
+        ≡ stepTurn bytes index offsets (state at s program) (now (plan .entry)) kind body next)
+        × ReadyAt index head r ⌝ }
 {
-    if index.cases <= head.case {
-        return Outcome::Stopped(OPEN, at);
-    }
-    if !same_frame(frame, head.top()) {
-        return Outcome::Stopped(TOP, at);
-    }
-    let procedure = frame.procedure;
-    let line = frame.line;
-    let offset = line_offset(index.bounds, procedure, line);
-    if !line_fits(triple_at(program, offset), step, w) {
-        return Outcome::Stopped(LINE, at);
-    }
-    write_line(program, offset, step, w);
-    make_step(task, index, offsets, at, head, next, instruction_of(step))
-}
-
-// A step's record: questions 14 to 22.
-fn follow_step(
-    task: &[u8],
-    index: Index,
-    offsets: &[usize; 64],
-    plan: &[u8],
-    at: usize,
-    head: Head,
-    kind: u16,
-    body: usize,
-    next: usize,
-    program: &mut [u8; 768],
-) -> Outcome
-    requires { ⌜ Held (now task) index (now offsets) × (body + 5 ≤ length (now plan)) × (length (now program) ≡ 768) ⌝ }
-    ensures { λ r. ⌜ ((callers : List Frame) (s : Position) →
-        Stands head callers s
-        → turned (now (task .entry)) index s r (now (program .exit))
-        ≡ stepTurn
-        (now (task .entry))
-        index
-        (now (offsets .entry))
-        (state at s (now (program .entry)))
-        (now (plan .entry))
-        kind
-        body
-        next)
-        × Passes index head r × (length (now (program .exit)) ≡ length (now (program .entry))) ⌝ }
-{
-    let bounds = index.bounds;
-    if bounds.steps <= head.steps {
-        return Outcome::Stopped(STEPS, at);
-    }
     let procedure = plan[body];
     let line = plan[body + 1];
     let triple = triple_at(plan, body + 2);
-    if !decodes_for(bounds, index.actions, Proc(procedure), Line(line), triple) {
-        return Outcome::Stopped(ALLOWED, at);
-    }
-    let w = spelled(triple);
-    let frame = Frame {
-        procedure: Proc(procedure),
-        line: Line(line),
-    };
-    take_step(
-        task,
-        index,
-        offsets,
-        at,
-        head,
-        next,
-        frame,
-        step_of(kind, w),
+    if !decodes_for(
+        index.bounds,
+        index.actions,
+        Proc(procedure),
+        Line(line),
         triple,
-        program,
-    )
+    ) {
+        return Read::Stopped(ALLOWED);
+    }
+    if index.cases <= head.case {
+        return Read::Stopped(OPEN);
+    }
+    if !((procedure == head.procedure.0) & (line == head.line.0)) {
+        return Read::Stopped(TOP);
+    }
+    Read::Ready(step_of(kind, spelled(triple)), triple, next)
 }
 
-// One record: questions 11 to 13, and then what its kind asks.
-fn follow_record(
-    task: &[u8],
-    index: Index,
-    offsets: &[usize; 64],
-    plan: &[u8],
-    at: usize,
-    head: Head,
-    program: &mut [u8; 768],
-) -> Outcome
-    requires { ⌜ Held (now task) index (now offsets) × (length (now program) ≡ 768) ⌝ }
-    ensures { λ r. ⌜ ((callers : List Frame) (s : Position) →
+// One record: questions 11 to 17.
+fn read_record(index: Index, plan: &[u8], at: usize, head: Head) -> Read
+    requires { ⌜ inRange (index .bounds) ≡ true ⌝ }
+    ensures { λ r. ⌜ ((bytes offsets program : List ℕ) (callers : List Frame) (s : Position) →
         Stands head callers s
-        → turned (now (task .entry)) index s r (now (program .exit))
-        ≡ turnOf
-        (now (task .entry))
-        index
-        (now (offsets .entry))
-        (now (plan .entry))
-        (state at s (now (program .entry))))
-        × Passes index head r × (length (now (program .exit)) ≡ length (now (program .entry))) ⌝ }
+        → readTurn bytes index offsets (now (plan .entry)) (state at s program) r
+        ≡ turnOf bytes index offsets (now (plan .entry)) (state at s program))
+        × ReadyAt index head r ⌝ }
 {
     let found = plan_record(plan, at);
     let Found::Record {
@@ -270,29 +171,41 @@ fn follow_record(
         next,
     } = found
     else {
-        return Outcome::Stopped(PLAN_RECORD, at);
+        return Read::Stopped(PLAN_RECORD);
     };
-    if !is_kind(kind) {
-        return Outcome::Stopped(PLAN_KIND, at);
-    }
-    if !length_fits(kind, length) {
-        return Outcome::Stopped(PLAN_LENGTH, at);
+    let no = shape_no(kind, length, head.steps < index.bounds.steps);
+    if no != 0 {
+        return Read::Stopped(no);
     }
     if kind == 5 {
-        return close(index, plan, at, head.case, next);
+        return Read::Closing(next);
     }
-    follow_step(
-        task,
-        index,
-        offsets,
-        plan,
-        at,
-        head,
-        kind,
-        body,
-        next,
-        program,
-    )
+    read_step(index, plan, head, kind, body, next)
+}
+
+// A step of the top frame's line, with its instruction's three bytes: questions 18 to 22. A write fills its line.
+fn take_step(
+    task: &[u8],
+    index: Index,
+    offsets: &[usize; 64],
+    head: Head,
+    step: Step,
+    w: Triple,
+    program: &mut [u8; 768],
+) -> Asked
+    requires { ⌜ Held (now task) index (now offsets) × StepReady index head step w × (length (now program) ≡ 768) ⌝ }
+    ensures { λ r. ⌜ ((at next : ℕ) (callers : List Frame) (s : Position) →
+        Stands head callers s
+        → onMove at next (now (program .exit)) (performedAs (now (task .entry)) index s (instructionOf step) r)
+        ≡ lineTurn (now (task .entry)) index (now (offsets .entry)) (state at s (now (program .entry))) next step)
+        × HasRoom index head step r × (length (now (program .exit)) ≡ 768) ⌝ }
+{
+    let offset = line_offset(index.bounds, head.procedure, head.line);
+    if !line_fits(triple_at(program, offset), step, w) {
+        return Asked::No(LINE);
+    }
+    write_line(program, offset, step, w);
+    ask(task, index, offsets, head, instruction_of(step))
 }
 
 // The whole plan: its verdict, and in `program`, which has the preset lines at first, those that its steps wrote too. `callers` has, at each
@@ -310,42 +223,74 @@ fn follow(
         ≡ follow (now (task .entry)) (record { index = index; offsets = now (offsets .entry); presets = now (program .entry) }) (now (plan .entry)))
         × (length (now (program .exit)) ≡ 768) ⌝ }
 {
-    let first = case_at(task, index.first, 0);
     let mut at = 0;
-    let mut head = Head::starting(first.start);
-    let mut callers = [Frame {
-        procedure: Proc(0),
-        line: Line(0),
-    }; 17];
+    let mut head = Head::starting(task, index.first);
+    let mut callers = [head.caller(); 17];
     loop {
-        let outcome = follow_record(task, index, offsets, plan, at, head, program);
-        match outcome {
-            Outcome::Next(next, w, facts) => {
-                let depth = head.depth as usize;
-                callers[depth] = head.caller();
-                let below = callers[depth - 1];
-                let moved = head.moved(task, index, below, facts, w);
-                head = moved.counted();
-                at = next;
-            }
-            Outcome::Stopped(question, place) => {
-                return Verdict::Refused { question, place };
-            }
-            Outcome::Closed => {
-                return Verdict::Accepted {
-                    value: head.steps as usize,
+        let read = read_record(index, plan, at, head);
+        match read {
+            Read::Stopped(question) => {
+                return Verdict::Refused {
+                    question,
+                    place: at,
                 };
+            }
+            Read::Closing(next) => return close(index, plan.len(), at, head.case, head.steps, next),
+            Read::Ready(step, w, next) => {
+                let asked = take_step(task, index, offsets, head, step, w, program);
+                match asked {
+                    Asked::No(question) => {
+                        return Verdict::Refused {
+                            question,
+                            place: at,
+                        };
+                    }
+                    Asked::Facts(facts) => {
+                        let depth = head.depth as usize;
+                        callers[depth] = head.caller();
+                        let below = callers[depth - 1];
+                        head = head.moved(task, index, below, facts, instruction_of(step));
+                        at = next;
+                    }
+                }
             }
         }
     }
 }
 
-// Fills the buffer's first bytes with those of a program.
-fn fill(buffer: &mut [u8], size: usize, from: &[u8])
-    requires { ⌜ (size ≤ length (now buffer)) × (size ≤ length (now from)) ⌝ }
-    ensures { λ _. ⌜ now (buffer .exit) ≡ filled size (now (from .entry)) (now (buffer .entry)) ⌝ }
+// Puts the first bytes of others at an offset of a buffer; the rest keeps its value.
+pub(crate) fn put(buffer: &mut [u8], at: usize, size: usize, others: &[u8])
+    requires { ⌜ (at + size ≤ length (now buffer)) × (size ≤ length (now others)) ⌝ }
+    ensures { λ _. ⌜ now (buffer .exit) ≡ withBytes (now (buffer .entry)) at size (now (others .entry)) ⌝ }
 {
-    copy(&from[..size], buffer);
+    copy(&others[..size], &mut buffer[at..]);
+}
+
+// Checks a plan against a task that passes, with its preset lines in `program`: question 10, and then what the plan asks.
+fn check_passed(
+    task: &[u8],
+    index: Index,
+    offsets: &[usize; 64],
+    mut program: [u8; 768],
+    plan: &[u8],
+    buffer: &mut [u8],
+) -> Verdict
+    requires { ⌜ ReadAs (now task) (record { index = index; offsets = now offsets; presets = program }) ⌝ }
+    ensures { λ r. ⌜ record { verdict = r; buffer = now (buffer .exit) } ≡ check (now (task .entry)) (now (plan .entry)) (now (buffer .entry)) ⌝ }
+{
+    let size = 3 * line_count(index.bounds) as usize;
+    if buffer.len() < size {
+        return Verdict::Refused {
+            question: BUFFER,
+            place: 0,
+        };
+    }
+    let followed = follow(task, index, offsets, plan, &mut program);
+    let Verdict::Accepted { value: _ } = followed else {
+        return followed;
+    };
+    put(buffer, 0, size, &program);
+    followed
 }
 
 // Checks a plan against a task: the verdict, with the number of steps if the plan is accepted. Then the program, the preset
@@ -359,19 +304,5 @@ pub fn check_plan(task: &[u8], plan: &[u8], buffer: &mut [u8]) -> Verdict
         return verdict;
     };
     let read = reading.task;
-    let index = read.index;
-    let size = 3 * line_count(index.bounds) as usize;
-    if buffer.len() < size {
-        return Verdict::Refused {
-            question: BUFFER,
-            place: 0,
-        };
-    }
-    let mut program = read.presets;
-    let followed = follow(task, index, &read.offsets, plan, &mut program);
-    let Verdict::Accepted { value: _ } = followed else {
-        return followed;
-    };
-    fill(buffer, size, &program);
-    followed
+    check_passed(task, read.index, &read.offsets, read.presets, plan, buffer)
 }

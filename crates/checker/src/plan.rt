@@ -1,10 +1,7 @@
-// A plan's steps, and the bytes of their records.
-use step::position::Frame;
+// A plan's steps.
 use task::instruction::Instruction;
-use task::instruction::Triple;
 ghost use mathlib.Core.Path.{_≡_};
-ghost use Rattle.task.specs.Instruction.{encode};
-ghost use Rattle.checker.specs.Plan.{instructionOf, kindOf, stepOf, recordOf};
+ghost use Rattle.checker.specs.Plan.{instructionOf, stepOf};
 
 // A step writes an instruction on a line and runs it, or repeats the one that is there.
 pub enum Step {
@@ -32,34 +29,3 @@ pub(crate) fn instruction_of(step: Step) -> Instruction
         Step::Repeat(w) => w,
     }
 }
-
-// The kind of a step's record.
-fn kind_of(step: Step) -> u8
-    ensures { λ r. ⌜ r ≡ kindOf step ⌝ }
-{
-    match step {
-        Step::Write(_) => 16,
-        Step::Repeat(_) => 17,
-    }
-}
-
-// The bytes of a step's record, given those of its instruction.
-pub(crate) fn record_of(frame: Frame, step: Step, w: Triple) -> [u8; 9]
-    requires { ⌜ w ≡ encode (instructionOf step) ⌝ }
-    ensures { λ r. ⌜ r ≡ recordOf (record { frame = frame; step = step }) ⌝ }
-{
-    [
-        5,
-        0,
-        kind_of(step),
-        0,
-        frame.procedure.0,
-        frame.line.0,
-        w.op,
-        w.p,
-        w.q,
-    ]
-}
-
-// The bytes of the closing record.
-pub(crate) const CLOSING: [u8; 4] = [0, 0, 5, 0];

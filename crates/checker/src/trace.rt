@@ -1,111 +1,77 @@
-// The writer's trace, one byte for each step of a run: the top frame's procedure and line. From it and the program come the plan's records.
+// The writer's trace, one byte for each step of a run: 32 times the top frame's procedure and its line. From it and the program come the plan's
+// records.
+use crate::check::put;
 use crate::check::write_line;
-use crate::plan::CLOSING;
-use crate::plan::Step;
-use crate::plan::record_of;
-use bytes::copy;
-use step::position::Frame;
+use crate::plan::step_of;
+use crate::questions::PLAN_BUFFER;
 use task::bounds::Bounds;
-use task::instruction::Instruction;
 use task::instruction::Line;
 use task::instruction::Proc;
-use task::instruction::Triple;
 use task::instruction::spelled;
 use task::instruction::triple_at;
 use task::program::line_offset;
+use task::verdict::Verdict;
 ghost use mathlib.Core.Path.{_≡_};
 ghost use mathlib.Core.List.{_++_};
-ghost use Prim.Native.Nat.{_+_, _≤_, _<_};
+ghost use Prim.Native.Nat.{_≤_};
 ghost use lib.ListN.{length};
-ghost use Rattle.checker.specs.Answer.{filled};
-ghost use Rattle.checker.specs.Plan.{closing, planSize};
-ghost use Rattle.checker.specs.Trace.{frameOf, byteOf, withBytes, SpelledAt, linesWith, recordOn, Spelled, linesAfter, recordsAfter};
-ghost use Rattle.checker.specs.Write.{stepOn};
+ghost use Rattle.checker.specs.Answer.{accepted};
+ghost use Rattle.checker.specs.Plan.{closing};
+ghost use Rattle.checker.specs.Trace.{frameOf, SpelledAt, linesWith, recordOn, Spelled, recordsAfter};
+ghost use Rattle.checker.specs.Write.{onFinish};
 
-// The byte of a frame.
-pub(crate) fn byte_of(frame: Frame) -> u8
-    requires { ⌜ (frame .procedure .0 < 8) × (frame .line .0 < 32) ⌝ }
-    ensures { λ r. ⌜ r ≡ byteOf frame ⌝ }
+// The record of a step, by its byte in the trace. Its line is added to `lines`.
+fn next_record(bounds: Bounds, program: &[u8], lines: &mut [u8; 768], number: u8) -> [u8; 9]
+    requires { ⌜ SpelledAt bounds (now program) (frameOf number) × (length (now program) ≤ 768) × (length (now lines) ≡ 768) ⌝ }
+    ensures { λ r. ⌜
+        (now (lines .exit) ≡ linesWith bounds (now (program .entry)) (now (lines .entry)) (frameOf number))
+        × (r ≡ recordOn bounds (now (program .entry)) (now (lines .entry)) (frameOf number)) ⌝ }
 {
-    32 * frame.procedure.0 + frame.line.0
+    let procedure = number / 32;
+    let line = number % 32;
+    let offset = line_offset(bounds, Proc(procedure), Line(line));
+    let w = triple_at(program, offset);
+    // 16 for a line that `lines` does not hold, else 17.
+    let kind = 17 - (lines[offset] == 0) as u8;
+    write_line(lines, offset, step_of(kind as u16, spelled(w)), w);
+    [5, 0, kind, 0, procedure, line, w.op, w.p, w.q]
 }
 
-// The frame of a byte.
-fn frame_of(number: u8) -> Frame
-    ensures { λ r. ⌜ r ≡ frameOf number ⌝ }
-{
-    Frame {
-        procedure: Proc(number / 32),
-        line: Line(number % 32),
-    }
-}
-
-// The step at a line, given the three bytes that `lines` has there.
-fn step_on(held: Triple, w: Instruction) -> Step
-    ensures { λ r. ⌜ r ≡ stepOn held w ⌝ }
-{
-    if held.op == 0 {
-        Step::Write(w)
-    } else {
-        Step::Repeat(w)
-    }
-}
-
-// Puts a record at an offset; the other bytes keep their value.
-fn put(plan: &mut [u8], at: usize, added: &[u8])
-    requires { ⌜ at + length (now added) ≤ length (now plan) ⌝ }
-    ensures { λ _. ⌜ now (plan .exit) ≡ withBytes (now (plan .entry)) at (now (added .entry)) ⌝ }
-{
-    copy(added, &mut plan[at..]);
-}
-
-// One step at a frame: its line is added to `lines`, and its record put into the plan.
-fn put_step(
-    bounds: Bounds,
-    program: &[u8],
-    frame: Frame,
-    lines: &mut [u8; 768],
-    plan: &mut [u8],
-    at: usize,
-)
-    requires { ⌜ SpelledAt bounds (now program) frame × (length (now program) ≤ length (now lines)) × (at + 9 ≤ length (now plan)) ⌝ }
-    ensures { λ _. ⌜
-        (now (lines .exit) ≡ linesWith bounds (now (program .entry)) (now (lines .entry)) frame)
-        × (now (plan .exit) ≡ withBytes (now (plan .entry)) at (recordOn bounds (now (program .entry)) (now (lines .entry)) frame)) ⌝ }
-{
-    let offset = line_offset(bounds, frame.procedure, frame.line);
-    let triple = triple_at(program, offset);
-    let step = step_on(triple_at(lines, offset), spelled(triple));
-    write_line(lines, offset, step, triple);
-    put(plan, at, &record_of(frame, step, triple));
-}
-
-// The plan of a run's steps, by their trace: their records and the closing one fill its first bytes. `lines` has the preset lines at first, and
-// then those run too.
+// What follows a run that ended all cases, given its trace: question 29, and the plan. The records of its steps and the closing one fill the buffer's
+// first bytes. `lines` has the lines preset or run so far.
 pub(crate) fn write_records(
     bounds: Bounds,
     program: &[u8],
     trace: &[u8; 4096],
-    steps: usize,
-    lines: &mut [u8; 768],
-    plan: &mut [u8],
-)
+    steps: u16,
+    presets: [u8; 768],
+    buffer: &mut [u8],
+) -> Verdict
     requires { ⌜ (steps ≤ 4096)
-        × (planSize steps ≤ length (now plan))
-        × (length (now program) ≤ length (now lines))
+        × (length (now program) ≤ 768)
+        × (length presets ≡ 768)
         × Spelled bounds (now program) (now trace) steps ⌝ }
-    ensures { λ _. ⌜
-        (now (plan .exit)
-        ≡ filled
-        (planSize steps)
-        (recordsAfter bounds (now (program .entry)) (now (lines .entry)) (now (trace .entry)) steps ++ closing)
-        (now (plan .entry)))
-        × (now (lines .exit) ≡ linesAfter bounds (now (program .entry)) (now (lines .entry)) (now (trace .entry)) steps) ⌝ }
+    ensures { λ r. ⌜ record { verdict = r; buffer = now (buffer .exit) }
+        ≡ onFinish
+        (now (buffer .entry))
+        (accepted steps (recordsAfter bounds (now (program .entry)) presets (now (trace .entry)) steps ++ closing)) ⌝ }
 {
+    let count = steps as usize;
+    let size = 9 * count + 4;
+    if buffer.len() < size {
+        return Verdict::Refused {
+            question: PLAN_BUFFER,
+            place: size,
+        };
+    }
+    let mut lines = presets;
     let mut k = 0;
-    while k < steps {
-        put_step(bounds, program, frame_of(trace[k]), lines, plan, 9 * k);
+    while k < count {
+        let record = next_record(bounds, program, &mut lines, trace[k]);
+        put(buffer, 9 * k, 9, &record);
         k += 1;
     }
-    put(plan, 9 * steps, &CLOSING);
+    let closing = [0, 0, 5, 0];
+    put(buffer, 9 * count, 4, &closing);
+    Verdict::Accepted { value: count }
 }

@@ -1,51 +1,38 @@
 // The writer: a program run on all the cases, and the plan of its steps. Kind 17 repeats a line that is preset or was run earlier, 16
 // writes any other; 5 closes the file.
-use crate::questions::PLAN_BUFFER;
-use crate::trace::byte_of;
 use crate::trace::write_records;
 use step::head::Head;
 use step::perform::Asked;
 use step::perform::ask;
-use step::position::Frame;
 use step::questions::STEPS;
 use task::index::Index;
-use task::index::case_at;
-use task::instruction::Line;
-use task::instruction::Proc;
 use task::program::check_program;
 use task::program::line_instruction;
 use task::reading::read_task;
 use task::verdict::Verdict;
 ghost use mathlib.Core.Path.{_≡_};
-ghost use mathlib.Core.List.{List};
-ghost use Prim.Native.Nat.{ℕ};
-ghost use lib.ListN.{length};
 ghost use Rattle.checker.specs.Outcome.{RunsOf};
-ghost use Rattle.checker.specs.Trace.{tracedAs, SpelledTo};
-ghost use Rattle.checker.specs.Write.{run, write};
+ghost use Rattle.checker.specs.Write.{run, onFinish, write};
 
-// The whole run: its verdict, and in `trace` the byte of each step's line. `callers` has, at each depth, the frame that a pop comes back
-// to, as in the checker.
+// The whole run, and its plan: `trace` has the byte of each step's line, and `callers`, at each depth, the frame that a pop comes back to, as in
+// the checker.
 fn run(
     task: &[u8],
     index: Index,
     offsets: &[usize; 64],
+    presets: [u8; 768],
     program: &[u8],
-    trace: &mut [u8; 4096],
+    buffer: &mut [u8],
 ) -> Verdict
-    requires { ⌜ RunsOf (now task) index (now offsets) (now program) × (length (now trace) ≡ 4096) ⌝ }
-    ensures { λ r. ⌜
-        ((presets : List ℕ) →
-        tracedAs (index .bounds) (now (program .entry)) presets (now (trace .exit)) r
-        ≡ run (now (task .entry)) (record { index = index; offsets = now (offsets .entry); presets = presets }) (now (program .entry)))
-        × SpelledTo (index .bounds) (now (program .entry)) (now (trace .exit)) r ⌝ }
+    requires { ⌜ RunsOf (now task) (record { index = index; offsets = now offsets; presets = presets }) (now program) ⌝ }
+    ensures { λ r. ⌜ record { verdict = r; buffer = now (buffer .exit) }
+        ≡ onFinish
+        (now (buffer .entry))
+        (run (now (task .entry)) (record { index = index; offsets = now (offsets .entry); presets = presets }) (now (program .entry))) ⌝ }
 {
-    let first = case_at(task, index.first, 0);
-    let mut head = Head::starting(first.start);
-    let mut callers = [Frame {
-        procedure: Proc(0),
-        line: Line(0),
-    }; 17];
+    let mut head = Head::starting(task, index.first);
+    let mut callers = [head.caller(); 17];
+    let mut trace = [0u8; 4096];
     while head.case < index.cases {
         let steps = head.steps as usize;
         if index.bounds.steps <= head.steps {
@@ -54,9 +41,8 @@ fn run(
                 place: steps,
             };
         }
-        let top = head.top();
-        let w = line_instruction(index, program, top.procedure, top.line);
-        let asked = ask(task, index, offsets, head.facts, head.case, head.depth, w);
+        let w = line_instruction(index, program, head.procedure, head.line);
+        let asked = ask(task, index, offsets, head, w);
         match asked {
             Asked::No(question) => {
                 return Verdict::Refused {
@@ -65,18 +51,14 @@ fn run(
                 };
             }
             Asked::Facts(facts) => {
-                trace[steps] = byte_of(top);
+                trace[steps] = 32 * head.procedure.0 + head.line.0;
                 let depth = head.depth as usize;
                 callers[depth] = head.caller();
-                let below = callers[depth - 1];
-                let moved = head.moved(task, index, below, facts, w);
-                head = moved.counted();
+                head = head.moved(task, index, callers[depth - 1], facts, w);
             }
         }
     }
-    Verdict::Accepted {
-        value: head.steps as usize,
-    }
+    write_records(index.bounds, program, &trace, head.steps, presets, buffer)
 }
 
 // Writes the plan of a program: the verdict, with the number of steps if the program ends every case in its goal. Then the plan fills the
@@ -95,19 +77,5 @@ pub fn write_plan(task: &[u8], program: &[u8], buffer: &mut [u8]) -> Verdict
     let Verdict::Accepted { value: _ } = checked else {
         return checked;
     };
-    let mut trace = [0u8; 4096];
-    let ran = run(task, index, &read.offsets, program, &mut trace);
-    let Verdict::Accepted { value: steps } = ran else {
-        return ran;
-    };
-    let size = 9 * steps + 4;
-    if buffer.len() < size {
-        return Verdict::Refused {
-            question: PLAN_BUFFER,
-            place: size,
-        };
-    }
-    let mut lines = read.presets;
-    write_records(index.bounds, program, &trace, steps, &mut lines, buffer);
-    ran
+    run(task, index, &read.offsets, read.presets, program, buffer)
 }

@@ -8,14 +8,12 @@ use mathlib.Core.List.{List}
 use lib.ListN.{length, getD}
 use Rattle.task.specs.Bounds.{inRange}
 use Rattle.task.specs.Index.{actionAt}
-use Rattle.task.specs.Program.{instructionOn, programVerdict}
+use Rattle.task.specs.Program.{programVerdict}
 use Rattle.task.specs.declared.index.Index.{Index}
 use Rattle.task.specs.declared.instruction.Instruction.{Instruction}
 use Rattle.task.specs.declared.instruction.Instruction.the-variants.{Act, Call}
-use Rattle.task.specs.declared.instruction.Decoded.the-variants.{Is}
 use Rattle.task.specs.declared.instruction.Proc.{Proc}
 use Rattle.task.specs.declared.verdict.Verdict.the-variants.{Accepted}
-use Rattle.step.specs.Position.{top}
 use Rattle.step.specs.Possible.{possible}
 use Rattle.step.specs.declared.position.Position.{Position}
 
@@ -43,14 +41,11 @@ pub record Lined (i : Index) (program : List ℕ) : Type 0 where
   pub value : ℕ
   pub passes : programVerdict i presets program ≡ Accepted value
 
--- a position at which such a program runs
+-- a position at which such a program runs, with fewer than S steps done
 pub record Runs (i : Index) (program : List ℕ) (s : Position) : Type 0 where
   pub standing : Open i s
   pub lined : Lined i program
-
--- the instruction on a position's line
-abbrev pub OnLine : Index → List ℕ → Position → Instruction → Type 0
-OnLine i program s w = instructionOn i program (top s .procedure) (top s .line) ≡ Is w
+  pub left : s .steps < i .bounds .steps
 
 -- an act names one of the task's actions
 abbrev pub Known : Index → Instruction → Type 0
@@ -59,8 +54,3 @@ Known i w = (action : ℕ) → w ≡ Act action → action < i .actions
 -- room for a call's frame: question 21 said yes
 abbrev pub Room : Index → ℕ → Instruction → Type 0
 Room i depth w = (procedure : Proc) → w ≡ Call procedure → depth < i .bounds .stack
-
--- what the move at such a position requires: fewer than S steps are done, and a call has room for its frame
-pub record Movable (i : Index) (program : List ℕ) (s : Position) : Type 0 where
-  pub left : s .steps < i .bounds .steps
-  pub room : (w : Instruction) → OnLine i program s w → Room i (s .depth) w

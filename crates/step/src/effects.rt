@@ -8,7 +8,7 @@ ghost use lib.ListN.{length};
 ghost use mathlib.Core.Bool.{cond};
 ghost use lib.Bits.{bitOr};
 ghost use Rattle.task.specs.Index.{actionAt};
-ghost use Rattle.step.specs.Effects.{effectsOf, changesOf, clashFree, changed};
+ghost use Rattle.step.specs.Effects.{effectsOf, changesOf};
 
 // The facts that fired effects raise, and those that they lower.
 pub struct Changes {
@@ -20,7 +20,10 @@ pub struct Changes {
 fn joined(fires: bool, set: u64, more: u64) -> u64
     ensures { λ r. ⌜ r ≡ cond fires (bitOr set more) set ⌝ }
 {
-    if fires { set | more } else { set }
+    if fires {
+        return set | more;
+    }
+    set
 }
 
 // What the effects of the action at an offset, so many of them, change in a state.
@@ -40,18 +43,4 @@ pub(crate) fn changes_of(task: &[u8], at: usize, effects: u16, state: u64) -> Ch
         e += 1;
     }
     Changes { raised, lowered }
-}
-
-// Whether no fact is both raised and lowered.
-pub(crate) fn clash_free(changes: Changes) -> bool
-    ensures { λ r. ⌜ r ≡ clashFree changes ⌝ }
-{
-    changes.raised & changes.lowered == 0
-}
-
-// The state after the changes.
-pub(crate) fn changed(state: u64, changes: Changes) -> u64
-    ensures { λ r. ⌜ r ≡ changed state changes ⌝ }
-{
-    changes.raised | (state ^ (state & changes.lowered))
 }

@@ -4,7 +4,7 @@ use crate::facts::has;
 use crate::position::Frame;
 use crate::position::Position;
 use crate::position::frame_at;
-use crate::position::with_frame;
+use crate::position::number;
 use task::index::Index;
 use task::index::case_at;
 use task::instruction::Instruction;
@@ -13,7 +13,8 @@ use task::instruction::Proc;
 ghost use mathlib.Core.Path.{_≡_};
 ghost use Prim.Native.Nat.{_+_, _*_, _≤_, _<_};
 ghost use lib.ListN.{length};
-ghost use Rattle.step.specs.Head.{headOf, stored, leftBy, startingHead, topOf, callerOf, jumpedHead, advancedHead, pushedHead, poppedHead, headWith, caseHead, countedHead, gotoHead, endedHead, movedHead, Fits};
+ghost use Rattle.task.specs.Index.{caseAt};
+ghost use Rattle.step.specs.Head.{headOf, stored, leftBy, startingHead, topOf, callerOf, jumpedHead, advancedHead, pushedHead, poppedHead, caseHead, countedHead, movedHead, Fits};
 
 // A position without the frames below its top one. The facts stand last, so that the compiler keeps each field as a value of its own.
 pub struct Head {
@@ -26,12 +27,14 @@ pub struct Head {
 }
 
 impl Head {
-    // The first case from its start.
-    pub fn starting(start: u64) -> Head
-        ensures { λ r. ⌜ r ≡ startingHead start ⌝ }
+    // The first case from its start, given where the first case's record is.
+    pub fn starting(task: &[u8], first: usize) -> Head
+        requires { ⌜ first + 28 ≤ length (now task) ⌝ }
+        ensures { λ r. ⌜ r ≡ startingHead (caseAt (now (task .entry)) first 0 .start) ⌝ }
     {
+        let case = case_at(task, first, 0);
         Head {
-            facts: start,
+            facts: case.start,
             steps: 0,
             case: 0,
             depth: 1,
@@ -77,9 +80,11 @@ impl Head {
         requires { ⌜ (self .depth ≤ 16) × (before .depth ≤ 16) × (before .line .0 < 255) ⌝ }
         ensures { λ r. ⌜ r ≡ stored before self position ⌝ }
     {
-        let frames = position.frames;
-        let left = with_frame(frames, before.depth, before.left(self.depth));
-        let frames = with_frame(left, self.depth, self.top());
+        let mut frames = position.frames;
+        let old = number(before.depth);
+        frames[old] = before.left(self.depth);
+        let new = number(self.depth);
+        frames[new] = self.top();
         Position {
             facts: self.facts,
             steps: self.steps,
@@ -90,7 +95,7 @@ impl Head {
     }
 
     // The top frame.
-    pub fn top(self) -> Frame
+    fn top(self) -> Frame
         ensures { λ r. ⌜ r ≡ topOf self ⌝ }
     {
         let procedure = self.procedure;
@@ -156,15 +161,6 @@ impl Head {
         }
     }
 
-    // The facts become others, and the line grows by 1.
-    fn acted(mut self, facts: u64) -> Head
-        requires { ⌜ self .line .0 < 255 ⌝ }
-        ensures { λ r. ⌜ r ≡ headWith (advancedHead self) facts ⌝ }
-    {
-        self.facts = facts;
-        self.advanced()
-    }
-
     // The case's number grows by 1: with one frame the next case from its start, with none the finish.
     fn next_case(self, depth: u8, facts: u64) -> Head
         requires { ⌜ self .case < 255 ⌝ }
@@ -180,53 +176,46 @@ impl Head {
         }
     }
 
-    // One step more is done.
-    pub fn counted(mut self) -> Head
-        requires { ⌜ self .steps < 65535 ⌝ }
-        ensures { λ r. ⌜ r ≡ countedHead self ⌝ }
+    // The head after an instruction that no question turned down, with one step more done, given the facts after an action and the frame below the
+    // top one.
+    pub fn moved(
+        mut self,
+        task: &[u8],
+        index: Index,
+        below: Frame,
+        facts: u64,
+        w: Instruction,
+    ) -> Head
+        requires { ⌜ Fits self w × (index .first + 28 * index .cases ≤ length (now task)) ⌝ }
+        ensures { λ r. ⌜ r ≡ countedHead (movedHead (now (task .entry)) index self below facts w) ⌝ }
     {
         self.steps += 1;
-        self
-    }
-
-    // Goto: the next line if the fact is true, else the target.
-    fn goto(self, target: Line, fact: u8) -> Head
-        requires { ⌜ (self .line .0 < 255) × (fact < 64) ⌝ }
-        ensures { λ r. ⌜ r ≡ gotoHead self target fact ⌝ }
-    {
-        if has(self.facts, fact) {
-            return self.advanced();
-        }
-        self.jumped(target)
-    }
-
-    // End: with more than one frame a pop, else the next case or the finish.
-    fn ended(self, task: &[u8], first: usize, cases: u8, below: Frame) -> Head
-        requires { ⌜ (self .case < 255) × (first + 28 * cases ≤ length (now task)) ⌝ }
-        ensures { λ r. ⌜ ((i : Index) → i .first ≡ first → i .cases ≡ cases → r ≡ endedHead (now (task .entry)) i self below) ⌝ }
-    {
-        if 1 < self.depth {
-            return self.popped(below);
-        }
-        let next = self.case + 1;
-        if next < cases {
-            let case = case_at(task, first, next);
-            return self.next_case(1, case.start);
-        }
-        self.next_case(0, self.facts)
-    }
-
-    // The head after an instruction that no question turned down, given the facts after an action and the frame below the top one.
-    pub fn moved(self, task: &[u8], index: Index, below: Frame, facts: u64, w: Instruction) -> Head
-        requires { ⌜ Fits self w × (index .first + 28 * index .cases ≤ length (now task)) ⌝ }
-        ensures { λ r. ⌜ r ≡ movedHead (now (task .entry)) index self below facts w ⌝ }
-    {
         match w {
             Instruction::Empty => return self,
-            Instruction::Act(_) => return self.acted(facts),
-            Instruction::Goto(target, fact) => return self.goto(target, fact),
+            Instruction::Act(_) => {
+                self.facts = facts;
+                return self.advanced();
+            }
+            // The next line if the fact is true, else the target.
+            Instruction::Goto(target, fact) => {
+                if has(self.facts, fact) {
+                    return self.advanced();
+                }
+                return self.jumped(target);
+            }
             Instruction::Call(procedure) => return self.pushed(procedure),
-            Instruction::End => return self.ended(task, index.first, index.cases, below),
+            // With more than one frame a pop, else the next case or the finish.
+            Instruction::End => {
+                if 1 < self.depth {
+                    return self.popped(below);
+                }
+                let next = self.case + 1;
+                if next < index.cases {
+                    let case = case_at(task, index.first, next);
+                    return self.next_case(1, case.start);
+                }
+                return self.next_case(0, self.facts);
+            }
         }
     }
 }

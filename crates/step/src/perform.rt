@@ -1,7 +1,5 @@
-// One step: one instruction at a position, by value.
-use crate::effects::changed;
+// One line of a program at a position, by value: its questions, and its move.
 use crate::effects::changes_of;
-use crate::effects::clash_free;
 use crate::facts::holds;
 use crate::head::Head;
 use crate::position::Position;
@@ -11,28 +9,24 @@ use crate::questions::EMPTY;
 use crate::questions::GOAL;
 use crate::questions::PRECONDITION;
 use crate::questions::STACK;
-use crate::questions::STEPS;
 use task::index::Index;
 use task::index::action_at;
 use task::index::case_at;
 use task::instruction::Instruction;
-use task::instruction::Proc;
 use task::program::line_instruction;
 use task::verdict::Verdict;
 ghost use mathlib.Core.Path.{_≡_};
 ghost use Prim.Native.Nat.{ℕ, _+_, _*_, _≤_, _<_};
 ghost use lib.ListN.{length};
 ghost use Rattle.task.specs.Index.{actionAt};
-ghost use mathlib.Core.List.{List};
 ghost use Rattle.task.specs.declared.instruction.Instruction.{Instruction};
-ghost use Rattle.task.specs.declared.instruction.Instruction.the-variants.{Act, Call, End};
-ghost use Rattle.step.specs.Moved.{Keeps, movedBy, performedAs};
-ghost use Rattle.step.specs.Position.{counted};
-ghost use Rattle.step.specs.Ready.{Held, Runs, OnLine, Movable, Known};
+ghost use Rattle.task.specs.declared.instruction.Instruction.the-variants.{Act};
+ghost use Rattle.step.specs.Moved.{Keeps, performedAs};
+ghost use Rattle.step.specs.Ready.{Held, Runs, Known};
 ghost use Rattle.step.specs.declared.position.Position.{Position};
-ghost use Rattle.step.specs.Perform.{act, call, end, perform, runStep, answered};
+ghost use Rattle.step.specs.Perform.{act, perform, runLine, answered};
 
-// The answer to a step's questions, 14, 28 and 19 to 22: the first that says no, or the facts after an action; any other instruction leaves them.
+// The answer to an instruction's questions, 28 and 19 to 22: the first that says no, or the facts after an action; any other instruction leaves them.
 pub enum Asked {
     No(u8),
     Facts(u64),
@@ -44,7 +38,7 @@ pub struct Stepped {
     pub position: Position,
 }
 
-// Act: questions 19 and 20.
+// Act: questions 19 and 20, whether no fact is both raised and lowered; then the facts raised, and those before that are not lowered.
 fn act(task: &[u8], at: usize, facts: u64) -> Asked
     requires { ⌜ at + (20 + 32 * actionAt (now task) at .effects) ≤ length (now task) ⌝ }
     ensures { λ r. ⌜ ((i : Index) (s : Position) (action : ℕ) →
@@ -56,119 +50,48 @@ fn act(task: &[u8], at: usize, facts: u64) -> Asked
         return Asked::No(PRECONDITION);
     }
     let changes = changes_of(task, at, action.effects, facts);
-    if !clash_free(changes) {
+    if changes.raised & changes.lowered != 0 {
         return Asked::No(CLASH);
     }
-    Asked::Facts(changed(facts, changes))
+    Asked::Facts(changes.raised | (facts ^ (facts & changes.lowered)))
 }
 
-// Call: question 21.
-fn call(stack: u8, facts: u64, depth: u8) -> Asked
-    ensures { λ r. ⌜ ((bytes : List ℕ) (i : Index) (s : Position) (procedure : Proc) →
-        s .depth ≡ depth → performedAs bytes i s (Call procedure) r ≡ call stack procedure s)
-        × Keeps facts r ⌝ }
-{
-    if stack <= depth {
-        return Asked::No(STACK);
-    }
-    Asked::Facts(facts)
-}
-
-// End: question 22, with one frame left.
-fn end(task: &[u8], first: usize, facts: u64, case: u8, depth: u8) -> Asked
-    requires { ⌜ first + (28 + 28 * case) ≤ length (now task) ⌝ }
-    ensures { λ r. ⌜ ((index : Index) (s : Position) →
-        index .first ≡ first
-        → s .facts ≡ facts
-        → s .case ≡ case
-        → s .depth ≡ depth
-        → performedAs (now (task .entry)) index s End r ≡ end (now (task .entry)) index s)
-        × Keeps facts r ⌝ }
-{
-    if 1 < depth {
-        return Asked::Facts(facts);
-    }
-    let last = case_at(task, first, case);
-    let goal = last.goal;
-    if !holds(facts, goal) {
-        return Asked::No(GOAL);
-    }
-    Asked::Facts(facts)
-}
-
-// Questions 19 to 22 of an instruction, and 28 of an empty one, at a position with these facts, this case and this depth.
-pub fn ask(
-    task: &[u8],
-    index: Index,
-    offsets: &[usize; 64],
-    facts: u64,
-    case: u8,
-    depth: u8,
-    w: Instruction,
-) -> Asked
-    requires { ⌜ Held (now task) index (now offsets) × (case < index .cases) × Known index w ⌝ }
+// Questions 19 to 22 of an instruction, and 28 of an empty one, at the positions with the facts, the case and the depth of this head.
+pub fn ask(task: &[u8], index: Index, offsets: &[usize; 64], head: Head, w: Instruction) -> Asked
+    requires { ⌜ Held (now task) index (now offsets) × (head .case < index .cases) × Known index w ⌝ }
     ensures { λ r. ⌜ ((s : Position) →
-        s .facts ≡ facts
-        → s .case ≡ case
-        → s .depth ≡ depth
+        s .facts ≡ head .facts
+        → s .case ≡ head .case
+        → s .depth ≡ head .depth
         → performedAs (now (task .entry)) index s w r ≡ perform (now (task .entry)) index (now (offsets .entry)) s w)
-        × (((action : ℕ) → w ≡ Act action → ⊥) → Keeps facts r) ⌝ }
+        × (((action : ℕ) → w ≡ Act action → ⊥) → Keeps (head .facts) r) ⌝ }
 {
     match w {
         Instruction::Empty => return Asked::No(EMPTY),
-        Instruction::Act(action) => return act(task, offsets[action as usize], facts),
-        Instruction::Goto(_, _) => return Asked::Facts(facts),
-        Instruction::Call(_) => return call(index.bounds.stack, facts, depth),
-        Instruction::End => return end(task, index.first, facts, case, depth),
+        Instruction::Act(action) => return act(task, offsets[action as usize], head.facts),
+        Instruction::Goto(_, _) => return Asked::Facts(head.facts),
+        Instruction::Call(_) => {
+            if index.bounds.stack <= head.depth {
+                return Asked::No(STACK);
+            }
+            return Asked::Facts(head.facts);
+        }
+        Instruction::End => {
+            if 1 < head.depth {
+                return Asked::Facts(head.facts);
+            }
+            let last = case_at(task, index.first, head.case);
+            let goal = last.goal;
+            if !holds(head.facts, goal) {
+                return Asked::No(GOAL);
+            }
+            return Asked::Facts(head.facts);
+        }
     }
 }
 
-// Questions 14, 28 and 19 to 22, of the instruction on a position's line.
-fn ask_line(
-    task: &[u8],
-    index: Index,
-    offsets: &[usize; 64],
-    program: &[u8],
-    position: Position,
-) -> Asked
-    requires { ⌜ Runs index (now program) position × Held (now task) index (now offsets) ⌝ }
-    ensures { λ r. ⌜ ((w : Instruction) →
-        OnLine index (now (program .entry)) position w
-        → performedAs (now (task .entry)) index position w r
-        ≡ runStep (now (task .entry)) index (now (offsets .entry)) (now (program .entry)) position) ⌝ }
-{
-    if index.bounds.steps <= position.steps {
-        return Asked::No(STEPS);
-    }
-    let top = frame_at(position, position.depth);
-    let w = line_instruction(index, program, top.procedure, top.line);
-    ask(
-        task,
-        index,
-        offsets,
-        position.facts,
-        position.case,
-        position.depth,
-        w,
-    )
-}
-
-// The position after the instruction on its line, which no question turned down, given the facts after an action: its head moves.
-fn moved(task: &[u8], index: Index, program: &[u8], position: Position, facts: u64) -> Position
-    requires { ⌜ Runs index (now program) position × Movable index (now program) position
-        × (index .first + 28 * index .cases ≤ length (now task)) ⌝ }
-    ensures { λ r. ⌜ ((w : Instruction) →
-        OnLine index (now (program .entry)) position w → r ≡ counted (movedBy (now (task .entry)) index position facts w)) ⌝ }
-{
-    let head = Head::of(position);
-    let w = line_instruction(index, program, head.procedure, head.line);
-    let below = frame_at(position, head.depth - 1);
-    let next = head.moved(task, index, below, facts, w).counted();
-    next.stored(head, position)
-}
-
-// One step of a program: the questions of its line, and the move.
-pub(crate) fn run_step(
+// One line of a program, at a position: the questions of the instruction there, and then the move of the position's head.
+pub(crate) fn run_line(
     task: &[u8],
     index: Index,
     offsets: &[usize; 64],
@@ -178,9 +101,11 @@ pub(crate) fn run_step(
     requires { ⌜ Runs index (now program) position × Held (now task) index (now offsets) ⌝ }
     ensures { λ r. ⌜
         r
-        ≡ answered position (runStep (now (task .entry)) index (now (offsets .entry)) (now (program .entry)) position) ⌝ }
+        ≡ answered position (runLine (now (task .entry)) index (now (offsets .entry)) (now (program .entry)) position) ⌝ }
 {
-    let asked = ask_line(task, index, offsets, program, position);
+    let head = Head::of(position);
+    let w = line_instruction(index, program, head.procedure, head.line);
+    let asked = ask(task, index, offsets, head, w);
     match asked {
         Asked::No(question) => {
             return Stepped {
@@ -192,9 +117,11 @@ pub(crate) fn run_step(
             };
         }
         Asked::Facts(facts) => {
+            let below = frame_at(position, position.depth - 1);
+            let next = head.moved(task, index, below, facts, w);
             return Stepped {
                 verdict: Verdict::Accepted { value: 1 },
-                position: moved(task, index, program, position, facts),
+                position: next.stored(head, position),
             };
         }
     }

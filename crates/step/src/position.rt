@@ -1,10 +1,10 @@
 // A run's position: the facts that are true, the steps done, the case, and the stack of (procedure, line). The layout is fixed: a caller's run
-// record has these fields. Its frames are read and set here by depth; its moves are those of its head.
+// record has these fields. Its frames are read here by depth; its moves are those of its head.
 use task::instruction::Line;
 use task::instruction::Proc;
 ghost use mathlib.Core.Path.{_≡_};
-ghost use Prim.Native.Nat.{_-_, _≤_};
-ghost use lib.ListN.{getD, set};
+ghost use Prim.Native.Nat.{_-_, _≤_, _<_};
+ghost use lib.ListN.{getD};
 ghost use Rattle.step.specs.Position.{origin};
 
 // A procedure and a line of it.
@@ -25,10 +25,14 @@ pub struct Position {
 }
 
 // The number of the top frame at a depth; 0 also where there is none.
-fn number(depth: u8) -> usize
-    ensures { λ r. ⌜ r ≡ depth - 1 ⌝ }
+pub(crate) fn number(depth: u8) -> usize
+    requires { ⌜ depth ≤ 16 ⌝ }
+    ensures { λ r. ⌜ (r ≡ depth - 1) × (r < 16) ⌝ }
 {
-    if depth == 0 { 0 } else { depth as usize - 1 }
+    if depth == 0 {
+        return 0;
+    }
+    depth as usize - 1
 }
 
 // The top frame at a depth.
@@ -38,14 +42,4 @@ pub(crate) fn frame_at(position: Position, depth: u8) -> Frame
 {
     let k = number(depth);
     position.frames[k]
-}
-
-// The frames with another top frame at a depth.
-pub(crate) fn with_frame(mut frames: [Frame; 16], depth: u8, frame: Frame) -> [Frame; 16]
-    requires { ⌜ depth ≤ 16 ⌝ }
-    ensures { λ r. ⌜ r ≡ set frames (depth - 1) frame ⌝ }
-{
-    let k = number(depth);
-    frames[k] = frame;
-    frames
 }

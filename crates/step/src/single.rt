@@ -1,9 +1,10 @@
 // The single step of a caller's run: by value, and of the run record that the caller lends.
 use crate::perform::Stepped;
-use crate::perform::run_step;
+use crate::perform::run_line;
 use crate::position::Position;
 use crate::possible::possible;
 use crate::questions::POSSIBLE;
+use crate::questions::STEPS;
 use task::index::Index;
 use task::program::check_program;
 use task::reading::read_task;
@@ -12,7 +13,7 @@ ghost use mathlib.Core.Path.{_≡_};
 ghost use Rattle.step.specs.Ready.{Held, Lined};
 ghost use Rattle.step.specs.Single.{stepOnce, singleStep};
 
-// The step of a task and a program that passed: question 31, the finish, one instruction.
+// The step of a task and a program that passed: question 31, the finish, question 14, one line.
 fn step_once(
     bytes: &[u8],
     index: Index,
@@ -38,7 +39,16 @@ fn step_once(
             position,
         };
     }
-    run_step(bytes, index, offsets, program, position)
+    if index.bounds.steps <= position.steps {
+        return Stepped {
+            verdict: Verdict::Refused {
+                question: STEPS,
+                place: position.steps as usize,
+            },
+            position,
+        };
+    }
+    run_line(bytes, index, offsets, program, position)
 }
 
 // Advances a run by one instruction: the answer, and the position after it, which on a refusal is the one that was given.

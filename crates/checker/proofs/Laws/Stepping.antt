@@ -27,16 +27,16 @@ use Rattle.step.specs.Ready.{Bounded, Known, Room}
 use Rattle.step.specs.declared.head.Head.{Head}
 use Rattle.step.specs.declared.position.Frame.{Frame}
 use Rattle.step.specs.declared.position.Position.{Position}
-use Rattle.step.proofs.Laws.Head.{noted-stands, moved-stands, counted-stands}
+use Rattle.step.proofs.Laws.Head.{noted-stands, moved-stands}
 use Rattle.step.proofs.Laws.Possible.{parts, case-open, depth-open}
 use Rattle.checker.proofs.Laws.Turns.{Standing}
 
--- a move counts nothing
+-- a step counts one
 either-counts : (b : Bool) (x y : Head) (n : ℕ) → x .steps ≡ n → y .steps ≡ n → cond b x y .steps ≡ n
 either-counts true x y n e f = e
 either-counts false x y n e f = f
 
-pub moved-counts : (bytes : List ℕ) (i : Index) (h : Head) (below : Frame) (facts : ℕ) (w : Instruction)
+moved-counts : (bytes : List ℕ) (i : Index) (h : Head) (below : Frame) (facts : ℕ) (w : Instruction)
     → movedHead bytes i h below facts w .steps ≡ h .steps
 unfolding movedHead gotoHead endedHead jumpedHead advancedHead pushedHead poppedHead headWith nextHead finishedHead
 moved-counts bytes i h below facts Empty = refl
@@ -50,15 +50,10 @@ moved-counts bytes i h below facts End =
     either-counts (ltb 1 (h .depth)) (poppedHead h below) (cond more next (finishedHead h)) (h .steps) refl
     (either-counts more next (finishedHead h) (h .steps) refl refl)
 
--- and the step is counted then: `m` is the head after the move, `n` the one with the step counted
-module _ (bytes : List ℕ) (i : Index) (h : Head) (below : Frame) (facts : ℕ) (w : Instruction) (m : Head)
-    (e : m ≡ movedHead bytes i h below facts w) where
-  pub same-steps : m .steps ≡ h .steps
-  same-steps = rw e (moved-counts bytes i h below facts w)
-
-  pub more-steps : (n : Head) → n ≡ countedHead m → n .steps ≡ h .steps + 1
-  unfolding countedHead
-  more-steps n f = rw f (omega (arith, same-steps))
+pub more-steps : (bytes : List ℕ) (i : Index) (h : Head) (below : Frame) (facts : ℕ) (w : Instruction) (n : Head)
+    → n ≡ countedHead (movedHead bytes i h below facts w) → n .steps ≡ h .steps + 1
+unfolding countedHead
+more-steps bytes i h below facts w n e = rw e (omega (arith, moved-counts bytes i h below facts w))
 
 -- an action that is allowed is one of the task's
 pub allowed-known : (i : Index) (line : Line) (w : Instruction) → allowed (i .bounds) (i .actions) line w ≡ true → Known i w
@@ -99,9 +94,6 @@ module _ (i : Index) (task : Bounded i) (h : Head) (callers : List Frame) (s : P
         }
 
     module _ (bytes : List ℕ) (below : Frame) (facts : ℕ) where
-      pub moved-few : movedHead bytes i h below facts w .steps < 65535
-      moved-few = omega (arith, moved-counts bytes i h below facts w, head-fits .steps)
-
       pub step-stands : Room i (h .depth) w → length callers ≡ 17
           → below ≡ getD (set callers (h .depth) (callerOf h)) (h .depth - 1) origin
           → Stands (countedHead (movedHead bytes i h below facts w)) (set callers (h .depth) (callerOf h)) (counted (movedBy bytes i s facts w))
@@ -109,6 +101,5 @@ module _ (i : Index) (task : Bounded i) (h : Head) (callers : List Frame) (s : P
           let f = callerOf h in
           let at = getD-set-same callers (h .depth) f origin (omega (arith, size, head-depth)) in
           let most = ranges (i .bounds) (task .ranges) .stack .1 in
-          counted-stands _ _ _
-          (moved-stands h _ s (noted-stands h callers s st f) bytes i head-above head-depth at below e facts w
-          (λ procedure k. omega (arith, room procedure k, most)))
+          moved-stands h _ s (noted-stands h callers s st f) bytes i head-above head-depth at below e facts w
+          (λ procedure k. omega (arith, room procedure k, most))

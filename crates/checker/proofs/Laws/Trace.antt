@@ -19,23 +19,17 @@ use Rattle.task.specs.Instruction.{spelled}
 use Rattle.task.specs.Program.{lineOffset, lineBytes, instructionOn, isInstruction}
 use Rattle.task.specs.declared.bounds.Bounds.{Bounds}
 use Rattle.task.specs.declared.index.Index.{Index}
-use Rattle.task.specs.declared.index.Task.{Task}
-use Rattle.task.proofs.Laws.Bounds.{ranges}
 use Rattle.task.proofs.Laws.Instruction.{decode-spelled}
-use Rattle.task.proofs.Laws.Passed.{Passed}
 use Rattle.step.specs.Perform.{runStep}
 use Rattle.step.specs.Position.{starting, top}
 use Rattle.step.specs.declared.position.Frame.{Frame}
 use Rattle.step.specs.declared.position.Position.{Position}
-use Rattle.step.proofs.Laws.Kept.{top-possible}
 use Rattle.step.proofs.Laws.Perform.{step-ran, ran-steps}
-use Rattle.step.proofs.Laws.Possible.{parts, case-open}
 use Rattle.checker.specs.Answer.{refused, accepted}
 use Rattle.checker.specs.Plan.{closing}
-use Rattle.checker.specs.Trace.{byteOf, frameOf, SpelledAt, stepAt, linesWith, recordOn, Spelled, linesAfter, recordsAfter}
+use Rattle.checker.specs.Trace.{frameOf, SpelledAt, stepAt, linesWith, recordOn, Spelled, linesAfter, recordsAfter}
 use Rattle.checker.specs.Write.{Writing, onStep, writeTurn, start, run}
 use Rattle.checker.proofs.Laws.Check.{frame-is}
-use Rattle.checker.proofs.Laws.Turns.{Standing}
 use Rattle.checker.proofs.Laws.Write.{record-length, finished-accepts, runFrom, run-start, run-turn}
 
 -- the writer's state at a position, by the trace of the steps done
@@ -47,16 +41,16 @@ traced b program presets trace position =
       plan = recordsAfter b program presets trace (position .steps);
     }
 
+-- the byte of a frame, whose procedure is below 8 and whose line below 32
+unfoldable pub byteOf : Frame → ℕ
+byteOf f = 32 * f .procedure .0 + f .line .0
+
 -- the frame of a frame's byte is that frame
 pub byte-frame : (f : Frame) → f .line .0 < 32 → frameOf (byteOf f) ≡ f
 unfolding byteOf frameOf
 byte-frame f h = frame-is (omega arith) (omega arith)
 
 module _ (b : Bounds) (program presets trace : List ℕ) where
-  pub lines-none : presets ≡ linesAfter b program presets trace 0
-  unfolding linesAfter
-  lines-none = refl
-
   pub lines-next : (k : ℕ) → linesAfter b program presets trace (k + 1)
       ≡ linesWith b program (linesAfter b program presets trace k) (frameOf (getD trace k 0))
   unfolding linesAfter
@@ -112,15 +106,6 @@ module _ (trace : List ℕ) (k : ℕ) (f : Frame) (room : k < length trace) (sma
       ∙ rw
       (frame-put, lines-kept b program presets trace k (byteOf f) k (omega arith), records-kept b program presets trace k (byteOf f) k (omega arith))
       refl
-
--- in a task that passes, a possible position with a case open has a top frame that fits a byte
-pub top-fits : (bytes : List ℕ) (t : Task) → Passed bytes t → (p : Position) → Standing (t .index) p → p .case < t .index .cases
-    → (top p .procedure .0 < 8) × (top p .line .0 < 32)
-top-fits bytes t passed p h o =
-    let above = case-open (t .index) p (parts (t .index) p (h .0) .depth) (omega arith) in
-    let r = ranges (t .index .bounds) (passed .bounded) in
-    let used = top-possible bytes t passed p (h .0) above (h .1) in
-    (omega arith, omega arith)
 
 -- the trace after the step at a position: the top frame's byte at the number of the steps done
 abbrev pub traceOn : List ℕ → Position → List ℕ

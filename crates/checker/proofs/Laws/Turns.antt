@@ -36,11 +36,9 @@ use Rattle.step.proofs.Laws.Kept.{step-possible}
 use Rattle.step.proofs.Laws.Possible.{parts, case-open}
 use Rattle.checker.specs.Answer.{Result, refused, accepted}
 use Rattle.checker.specs.Check.{State, lineFits, written, onMove, onStep, onDecoded, stepTurn, closeTurn, onRecord, turnOf, left, begin, follow}
-use Rattle.checker.specs.Outcome.{ReadAs, state, turned}
+use Rattle.checker.specs.Outcome.{ReadAs}
 use Rattle.checker.specs.Plan.{stepOf, isKind, lengthFits, frameAt}
 use Rattle.checker.specs.Questions.{PLAN-RECORD, PLAN-CLOSED}
-use Rattle.checker.specs.declared.check.Outcome.{Outcome}
-use Rattle.checker.specs.declared.check.Outcome.the-variants.{Next, Stopped, Closed}
 use Rattle.checker.proofs.Laws.Check.{same-frame, step-instruction}
 
 module _ (bytes : List ℕ) (i : Index) (offsets plan : List ℕ) (s : State) where
@@ -258,29 +256,15 @@ module _ (bytes : List ℕ) (i : Index) (offsets plan : List ℕ) where
   unfolding from
   from-turn s = unroll (turnOf bytes i offsets plan) (left plan) (refused PLAN-RECORD 0) (falls bytes i offsets plan) s
 
-  -- one record more: its outcome, with the program as it is then
-  module _ (s : State) (outcome : Outcome) (program : List ℕ) (e : turned bytes i (s .position) outcome program ≡ turnOf bytes i offsets plan s) where
-    pub next-goes : (at : ℕ) (w : Instruction) (facts : ℕ) → outcome ≡ Next at w facts
-        → turnOf bytes i offsets plan s ≡ go (state at (counted (movedBy bytes i (s .position) facts w)) program)
-    unfolding turned
-    next-goes at w facts h = sym (rw h at e)
+  -- one record more
+  module _ (s : State) (whole : Result) (r : from bytes i offsets plan s ≡ whole) where
+    rest : (t : Turn State Result) → t ≡ turnOf bytes i offsets plan s → after t (from bytes i offsets plan) ≡ whole
+    rest t e = ap (λ (u : Turn State Result). after u (from bytes i offsets plan)) e ∙ sym (from-turn s) ∙ r
 
-    pub next-falls : (at : ℕ) (w : Instruction) (facts : ℕ) → outcome ≡ Next at w facts → length plan - at < left plan s
-    next-falls at w facts h = falls bytes i offsets plan s _ (next-goes at w facts h)
+    pub from-goes : (t : State) → go t ≡ turnOf bytes i offsets plan s → from bytes i offsets plan t ≡ whole
+    unfolding after
+    from-goes t e = rest (go t) e
 
-    module _ (whole : Result) (r : from bytes i offsets plan s ≡ whole) where
-      rest : after (turned bytes i (s .position) outcome program) (from bytes i offsets plan) ≡ whole
-      rest = ap (λ (t : Turn State Result). after t (from bytes i offsets plan)) e ∙ sym (from-turn s) ∙ r
-
-      pub from-next : (at : ℕ) (w : Instruction) (facts : ℕ) → outcome ≡ Next at w facts
-          → from bytes i offsets plan (state at (counted (movedBy bytes i (s .position) facts w)) program) ≡ whole
-      unfolding turned after
-      from-next at w facts h = rw h at rest
-
-      pub from-stopped : (question place : ℕ) → outcome ≡ Stopped question place → refused question place ≡ whole
-      unfolding turned after
-      from-stopped question place h = rw h at rest
-
-      pub from-closed : outcome ≡ Closed → accepted (s .position .steps) program ≡ whole
-      unfolding turned after
-      from-closed h = rw h at rest
+    pub from-stops : (x : Result) → stop x ≡ turnOf bytes i offsets plan s → x ≡ whole
+    unfolding after
+    from-stops x e = rest (stop x) e

@@ -18,7 +18,7 @@ use Rattle.task.specs.declared.index.Index.{Index}
 use Rattle.task.specs.declared.instruction.Line.{Line}
 use Rattle.task.specs.declared.instruction.Proc.{Proc}
 use Rattle.task.specs.declared.instruction.Instruction.{Instruction}
-use Rattle.task.specs.declared.instruction.Instruction.the-variants.{Empty, Act, Goto, Call, End}
+use Rattle.task.specs.declared.instruction.Instruction.the-variants.{Act, Goto, Call, End}
 use Rattle.task.specs.declared.instruction.Decoded.{Decoded}
 use Rattle.task.specs.declared.instruction.Decoded.the-variants.{Is}
 use Rattle.task.specs.Program.{instructionOn}
@@ -27,7 +27,7 @@ use Rattle.step.specs.Facts.{holds}
 use Rattle.step.specs.Moved.{movedBy, performedAs}
 use Rattle.step.specs.Perform.{act, goto, call, afterCase, end, perform, performDecoded, runLine, runStep}
 use Rattle.step.specs.Position.{top, nextCase, finished, counted}
-use Rattle.step.specs.Questions.{STEPS, PRECONDITION, CLASH, STACK, GOAL, EMPTY}
+use Rattle.step.specs.Questions.{STEPS, PRECONDITION, CLASH, STACK, GOAL}
 use Rattle.step.specs.declared.effects.Changes.{Changes}
 use Rattle.step.specs.declared.perform.Asked.{Asked}
 use Rattle.step.specs.declared.perform.Asked.the-variants.{No, Facts}
@@ -105,10 +105,6 @@ module _ (bytes : List ℕ) (i : Index) (facts case depth : ℕ) where
         ap (λ (q : Position). go (counted q)) (sym (cond-no _ false _ _ (sym last) refl)) ∙ ask-yes _ _ _ (cc) ∙ cond-no _ false _ _ (sym last) refl
 
 module _ (bytes : List ℕ) (i : Index) (offsets : List ℕ) (s : Position) (w : Instruction) where
-  pub performs-none : w ≡ Empty → stop EMPTY ≡ perform bytes i offsets s w
-  unfolding perform
-  performs-none e = rw e
-
   pub performs-act : (action : ℕ) → w ≡ Act action → act bytes (getD offsets action 0) s ≡ perform bytes i offsets s w
   unfolding perform
   performs-act action e = rw e
@@ -125,17 +121,30 @@ module _ (bytes : List ℕ) (i : Index) (offsets : List ℕ) (s : Position) (w :
   unfolding perform
   performs-end e = rw e
 
+-- the answer to an instruction's questions at every position with these facts, this case and this depth
+module _ (bytes : List ℕ) (i : Index) (offsets : List ℕ) (facts case depth : ℕ) where
+  abbrev Asks : Instruction → Asked → Type 0
+  Asks w r =
+      (s : Position) → s .facts ≡ facts → s .case ≡ case → s .depth ≡ depth → performedAs bytes i s w r ≡ perform bytes i offsets s w
+
+  pub asks-as : (w v : Instruction) → w ≡ v → (r : Asked) → Asks v r → Asks w r
+  asks-as w v e r f = rw e f
+
 -- one step of a program: `f` is the top frame, `d` what stands on its line
 module _ (bytes : List ℕ) (i : Index) (offsets program : List ℕ) (s : Position) where
   pub steps-used : i .bounds .steps ≤ s .steps → stop STEPS ≡ runStep bytes i offsets program s
   unfolding runStep
   steps-used h = ask-no _ _ _ (le-ltb (s .steps) (i .bounds .steps) h)
 
-  module _ (h : s .steps < i .bounds .steps) (f : Frame) (e : f ≡ top s) (d : Decoded) (g : d ≡ instructionOn i program (f .procedure) (f .line)) where
-    on-line : performDecoded bytes i offsets s d ≡ runStep bytes i offsets program s
-    unfolding runStep runLine
-    on-line = rw (g, e) (ask-yes _ _ _ (lt-ltb (s .steps) (i .bounds .steps) h))
+  pub steps-left : s .steps < i .bounds .steps → runLine bytes i offsets program s ≡ runStep bytes i offsets program s
+  unfolding runStep
+  steps-left h = ask-yes _ _ _ (lt-ltb (s .steps) (i .bounds .steps) h)
 
-    pub line-runs : (w : Instruction) → d ≡ Is w → perform bytes i offsets s w ≡ runStep bytes i offsets program s
-    unfolding performDecoded
-    line-runs w k = rw k at on-line
+  pub line-performs : (f : Frame) → f ≡ top s → (d : Decoded) → d ≡ instructionOn i program (f .procedure) (f .line)
+      → (w : Instruction) → d ≡ Is w → perform bytes i offsets s w ≡ runLine bytes i offsets program s
+  unfolding runLine performDecoded
+  line-performs f e d g w k = rw (← e, ← g, k)
+
+  pub line-runs : s .steps < i .bounds .steps → (f : Frame) → f ≡ top s → (d : Decoded) → d ≡ instructionOn i program (f .procedure) (f .line)
+      → (w : Instruction) → d ≡ Is w → perform bytes i offsets s w ≡ runStep bytes i offsets program s
+  line-runs h f e d g w k = line-performs f e d g w k ∙ steps-left h

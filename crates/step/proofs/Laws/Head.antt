@@ -27,51 +27,65 @@ use Rattle.step.specs.declared.head.Head.{Head}
 use Rattle.step.specs.declared.position.Frame.{Frame}
 use Rattle.step.specs.declared.position.Position.{Position}
 
--- an end, by the depth and the cases left, of every task with this first case and so many cases
-module _ (bytes : List ℕ) (h : Head) (below : Frame) (first cases : ℕ) where
-  abbrev EndsAs : Head → Type 0
-  EndsAs r = (i : Index) → i .first ≡ first → i .cases ≡ cases → r ≡ endedHead bytes i h below
-
-  pub ended-pops : 1 < h .depth → (r : Head) → r ≡ poppedHead h below → EndsAs r
+-- an end, by the depth and the cases left
+module _ (bytes : List ℕ) (i : Index) (h : Head) (below : Frame) (r : Head) where
+  pub ended-pops : 1 < h .depth → r ≡ poppedHead h below → r ≡ endedHead bytes i h below
   unfolding endedHead
-  ended-pops l r e i f g = e ∙ cond-yes _ true _ _ (sym (lt-ltb 1 (h .depth) l)) refl
+  ended-pops l e = e ∙ cond-yes _ true _ _ (sym (lt-ltb 1 (h .depth) l)) refl
 
-  pub ended-begins : h .depth ≤ 1 → h .case + 1 < cases → (x : Case) → x ≡ caseAt bytes first (h .case + 1) → (r : Head) → r ≡ caseHead h 1 (x .start)
-      → EndsAs r
-  unfolding endedHead nextHead
-  ended-begins l m x e r k i f g =
-      let here : x ≡ caseAt bytes (i .first) (h .case + 1) = rw f e in
-      k ∙ ap (λ (y : Case). nextHead h (y .start)) here
-      ∙ cond-yes _ true _ _ (sym (lt-ltb (h .case + 1) (i .cases) (omega (arith, m, g)))) refl
-      ∙ cond-no _ false _ _ (sym (le-ltb 1 (h .depth) l)) refl
+  -- with one frame
+  module _ (l : h .depth ≤ 1) where
+    pub ended-begins : h .case + 1 < i .cases → (x : Case) → x ≡ caseAt bytes (i .first) (h .case + 1) → r ≡ caseHead h 1 (x .start)
+        → r ≡ endedHead bytes i h below
+    unfolding endedHead nextHead
+    ended-begins m x e k =
+        k ∙ ap (λ (y : Case). nextHead h (y .start)) e
+        ∙ cond-yes _ true _ _ (sym (lt-ltb (h .case + 1) (i .cases) m)) refl
+        ∙ cond-no _ false _ _ (sym (le-ltb 1 (h .depth) l)) refl
 
-  pub ended-finishes : h .depth ≤ 1 → cases ≤ h .case + 1 → (r : Head) → r ≡ caseHead h 0 (h .facts) → EndsAs r
-  unfolding endedHead finishedHead
-  ended-finishes l m r k i f g =
-      k ∙ cond-no _ false _ _ (sym (le-ltb (h .case + 1) (i .cases) (omega (arith, m, g)))) refl ∙ cond-no _ false _ _ (sym (le-ltb 1 (h .depth) l)) refl
+    pub ended-finishes : i .cases ≤ h .case + 1 → r ≡ caseHead h 0 (h .facts) → r ≡ endedHead bytes i h below
+    unfolding endedHead finishedHead
+    ended-finishes m k =
+        k ∙ cond-no _ false _ _ (sym (le-ltb (h .case + 1) (i .cases) m)) refl ∙ cond-no _ false _ _ (sym (le-ltb 1 (h .depth) l)) refl
 
--- a move counts nothing, and leaves at most 16 frames if a call has room for its own
+-- a head with one step more done moves as it does before that
+module _ (bytes : List ℕ) (i : Index) (h : Head) (below : Frame) (facts : ℕ) where
+  either-counted : (b : Bool) (x y u v : Head) → x ≡ countedHead u → y ≡ countedHead v → cond b x y ≡ countedHead (cond b u v)
+  either-counted true x y u v e f = e
+  either-counted false x y u v e f = f
+
+  counted-moves : (w : Instruction) → movedHead bytes i (countedHead h) below facts w ≡ countedHead (movedHead bytes i h below facts w)
+  unfolding countedHead movedHead gotoHead endedHead jumpedHead advancedHead callerOf pushedHead poppedHead headWith nextHead finishedHead
+  counted-moves Empty = refl
+  counted-moves (Act action) = refl
+  counted-moves (Goto target fact) = either-counted (has (h .facts) fact) _ _ (advancedHead h) (jumpedHead h target) refl refl
+  counted-moves (Call procedure) = refl
+  counted-moves End =
+      let next = nextHead h (caseAt bytes (i .first) (h .case + 1) .start) in
+      let more = ltb (h .case + 1) (i .cases) in
+      either-counted (ltb 1 (h .depth)) _ _ (poppedHead h below) (cond more next (finishedHead h)) refl
+      (either-counted more _ _ next (finishedHead h) refl refl)
+
+  pub moves-as : (w v : Instruction) → w ≡ v → (r : Head) → r ≡ movedHead bytes i (countedHead h) below facts v
+      → r ≡ countedHead (movedHead bytes i h below facts w)
+  moves-as w v e r f = f ∙ rw e (counted-moves v)
+
+-- a move leaves at most 16 frames if a call has room for its own
 module _ (bytes : List ℕ) (i : Index) (h : Head) (below : Frame) (facts : ℕ) (d : h .depth ≤ 16) where
-  pub record Few (m : Head) : Type 0 where
-    pub steps : m .steps ≡ h .steps
-    pub depth : m .depth ≤ 16
+  abbrev Few : Head → Type 0
+  Few m = m .depth ≤ 16
 
-  moved-few : (w : Instruction) → ((procedure : Proc) → w ≡ Call procedure → h .depth < 16) → Few (movedHead bytes i h below facts w)
-  unfolding movedHead gotoHead endedHead jumpedHead advancedHead pushedHead poppedHead headWith nextHead finishedHead
-  moved-few Empty room = record { steps = refl; depth = d }
-  moved-few (Act action) room = record { steps = refl; depth = d }
-  moved-few (Goto target fact) room =
-      cond-either Few (has (h .facts) fact) (advancedHead h) (jumpedHead h target) (λ l. record { steps = refl; depth = d })
-      (λ l. record { steps = refl; depth = d })
-  moved-few (Call procedure) room = record { steps = refl; depth = omega (arith, room procedure refl) }
+  pub moved-few : (w : Instruction) → ((procedure : Proc) → w ≡ Call procedure → h .depth < 16) → Few (countedHead (movedHead bytes i h below facts w))
+  unfolding countedHead movedHead gotoHead endedHead jumpedHead advancedHead pushedHead poppedHead headWith nextHead finishedHead
+  moved-few Empty room = d
+  moved-few (Act action) room = d
+  moved-few (Goto target fact) room = cond-either Few (has (h .facts) fact) (advancedHead h) (jumpedHead h target) (λ l. d) (λ l. d)
+  moved-few (Call procedure) room = omega (arith, room procedure refl)
   moved-few End room =
       let next = nextHead h (caseAt bytes (i .first) (h .case + 1) .start) in
       let more = ltb (h .case + 1) (i .cases) in
-      cond-either Few (ltb 1 (h .depth)) (poppedHead h below) (cond more next (finishedHead h)) (λ l. record { steps = refl; depth = omega (arith, d) })
-      (λ l. cond-either Few more next (finishedHead h) (λ m. record { steps = refl; depth = omega arith }) (λ m. record { steps = refl; depth = omega arith }))
-
-  pub moves-few : (w : Instruction) → ((procedure : Proc) → w ≡ Call procedure → h .depth < 16) → (m : Head) → m ≡ movedHead bytes i h below facts w → Few m
-  moves-few w room m e = rw e (moved-few w room)
+      cond-either Few (ltb 1 (h .depth)) (poppedHead h below) (cond more next (finishedHead h)) (λ l. omega (arith, d))
+      (λ l. cond-either Few more next (finishedHead h) (λ m. omega arith) (λ m. omega arith))
 
 -- the head of a position with a frame moves as the position does, once it is stored there
 module _ (s : Position) (above : 0 < s .depth) where
@@ -148,14 +162,6 @@ module _ (s : Position) (above : 0 < s .depth) where
       (λ l.
       let one = ltb-false 1 (s .depth) l in
       either-stored more (nextHead h start) (finishedHead h) (nextCase s start) (finished s) (λ m. next-stored one start) (λ m. finished-stored one))
-
--- the same as the code finds it out
-pub moves-stored : (s : Position) → 0 < s .depth → (bytes : List ℕ) (i : Index) (facts : ℕ) (w : Instruction) (h : Head) → h ≡ headOf s
-    → (below : Frame) → below ≡ getD (s .frames) (h .depth - 1 - 1) origin → (m : Head) → m ≡ movedHead bytes i h below facts w
-    → (n : Head) → n ≡ countedHead m → (u : Position) → u ≡ stored h n s → u ≡ counted (movedBy bytes i s facts w)
-unfolding headOf
-moves-stored s above bytes i facts w h e below f m g n k u l =
-    l ∙ rw (k, g, f, e) (moved-stored s above bytes i facts w)
 
 pub starting-stands : (start : ℕ) (callers : List Frame) → Stands (startingHead start) callers (starting 0 start)
 unfolding startingHead starting top topOf origin
@@ -273,7 +279,7 @@ module _ (h : Head) (callers : List Frame) (s : Position) (st : Stands h callers
         size = length-set (s .frames) 0 origin ∙ st .size;
       }
 
-  pub counted-stands : Stands (countedHead h) callers (counted s)
+  counted-stands : Stands (countedHead h) callers (counted s)
   unfolding countedHead counted top topOf
   counted-stands =
       record {
@@ -310,13 +316,17 @@ module _ (h : Head) (callers : List Frame) (s : Position) (st : Stands h callers
       (next-stands h callers s st _))
       (λ m. finished-stands h callers s st))
 
-  pub moved-stands : (facts : ℕ) (w : Instruction) → ((procedure : Proc) → w ≡ Call procedure → h .depth < 16)
+  move-stands : (facts : ℕ) (w : Instruction) → ((procedure : Proc) → w ≡ Call procedure → h .depth < 16)
       → Stands (movedHead bytes i h below facts w) callers (movedBy bytes i s facts w)
   unfolding movedHead movedBy gotoHead
-  moved-stands facts Empty room = st
-  moved-stands facts (Act action) room = facts-stand _ callers _ (advanced-stands h callers s st d) facts
-  moved-stands facts (Goto target fact) room =
+  move-stands facts Empty room = st
+  move-stands facts (Act action) room = facts-stand _ callers _ (advanced-stands h callers s st d) facts
+  move-stands facts (Goto target fact) room =
       either-stands callers _ _ (ap (λ (x : ℕ). has x fact) (st .facts)) _ _ _ _ (λ l. advanced-stands h callers s st d)
       (λ l. jumped-stands h callers s st d target)
-  moved-stands facts (Call procedure) room = pushed-stands h callers s st a (room procedure refl) e procedure
-  moved-stands facts End room = ended-stands
+  move-stands facts (Call procedure) room = pushed-stands h callers s st a (room procedure refl) e procedure
+  move-stands facts End room = ended-stands
+
+  pub moved-stands : (facts : ℕ) (w : Instruction) → ((procedure : Proc) → w ≡ Call procedure → h .depth < 16)
+      → Stands (countedHead (movedHead bytes i h below facts w)) callers (counted (movedBy bytes i s facts w))
+  moved-stands facts w room = counted-stands _ callers _ (move-stands facts w room)

@@ -1,8 +1,8 @@
 -- A possible position by its parts.
 -- Assumes nothing.
-use Prim.Native.Nat.{_≤_, _<_}
+use Prim.Native.Nat.{ℕ, zero, suc, _≤_, _<_}
 use mathlib.Core.Path.{_≡_, refl, sym, _∙_}
-use mathlib.Core.Bool.{Bool, true, false, cond, _&&_, true≢false}
+use mathlib.Core.Bool.{Bool, Bool·beq, true, false, cond, _&&_, true≢false}
 use native.Mathlib.Omega.{arith}
 use lib.Dec.{leb, eqb}
 use borrow.Author.Tests.{ne-eqb, leb-true, le-leb, eqb-true, eq-eqb}
@@ -14,6 +14,19 @@ use Rattle.task.proofs.Laws.Bounds.{between-true}
 use Rattle.step.specs.Facts.{every}
 use Rattle.step.specs.Possible.{frameFits, depthFits, possible}
 use Rattle.step.specs.declared.position.Position.{Position}
+
+-- no frame exactly when all cases are finished, and at most m, after other tests
+pub depth-tests : (i : Index) (s : Position) (before : Bool)
+    → (before && Bool·beq (eqb (s .case) (i .cases)) (eqb (s .depth) 0) && leb (s .depth) (i .bounds .stack)) ≡ (before && depthFits i s)
+unfolding depthFits
+depth-tests i s false = refl
+depth-tests i s true = tests (eqb (s .case) (i .cases)) (s .depth) (i .bounds .stack)
+  where
+    tests : (finished : Bool) (d m : ℕ) → (Bool·beq finished (eqb d 0) && leb d m) ≡ cond finished (eqb d 0) (between 1 d m)
+    tests true zero m = le-leb 0 m (omega arith)
+    tests true (suc d) m = simp (ne-eqb (suc d) 0 (omega arith))
+    tests false zero m = refl
+    tests false (suc d) m = simp (ne-eqb (suc d) 0 (omega arith), le-leb 1 (suc d) (omega arith))
 
 -- the questions that a possible position answers with yes
 pub record Parts (i : Index) (s : Position) : Type 0 where

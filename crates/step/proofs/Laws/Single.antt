@@ -1,7 +1,7 @@
 -- The single step, answer by answer; that a finished run stays as it is, that a refusal changes nothing, and that 0 and 1 say that one step
 -- was made, to a possible position.
 -- Assumes nothing.
-use Prim.Native.Nat.{ℕ, _+_, _<_}
+use Prim.Native.Nat.{ℕ, _+_, _≤_, _<_}
 use mathlib.Core.Path.{_≡_, refl, sym, ap, _∙_}
 use mathlib.Core.Bool.{Bool, true, false}
 use mathlib.Core.List.{List}
@@ -21,12 +21,13 @@ use Rattle.task.specs.declared.verdict.Verdict.{Verdict}
 use Rattle.task.specs.declared.verdict.Verdict.the-variants.{Accepted, Refused}
 use Rattle.task.proofs.Laws.Passed.{Passed, passed}
 use Rattle.task.proofs.Laws.Verdict.{refused-accepted}
-use Rattle.step.specs.Perform.{runStep, unchanged, answered}
+use Rattle.step.specs.Perform.{runLine, runStep, unchanged, answered}
 use Rattle.step.specs.Possible.{possible}
-use Rattle.step.specs.Questions.{POSSIBLE}
+use Rattle.step.specs.Questions.{STEPS, POSSIBLE}
 use Rattle.step.specs.Single.{following, stepOnce, onReading, singleStep}
 use Rattle.step.specs.declared.perform.Stepped.{Stepped}
 use Rattle.step.specs.declared.position.Position.{Position}
+use Rattle.step.proofs.Laws.Answers.{steps-used, steps-left}
 use Rattle.step.proofs.Laws.Kept.{run-possible}
 use Rattle.step.proofs.Laws.Perform.{step-ran, ran-steps}
 
@@ -43,6 +44,15 @@ module _ (bytes : List ℕ) (i : Index) (offsets program : List ℕ) (s : Positi
   pub step-runs : h ≡ true → (s .depth ≡ 0 → ⊥) → answered s (runStep bytes i offsets program s) ≡ stepOnce bytes i offsets program s
   unfolding stepOnce
   step-runs y d = cond-no _ false _ _ (sym (ne-eqb (s .depth) 0 d)) refl ∙ cond-yes _ _ _ _ e y
+
+  -- question 14, and then the line
+  pub step-late : h ≡ true → (s .depth ≡ 0 → ⊥) → i .bounds .steps ≤ s .steps → unchanged s (Refused STEPS (s .steps)) ≡ stepOnce bytes i offsets program s
+  unfolding answered
+  step-late y d l = ap (answered s) (steps-used bytes i offsets program s l) ∙ step-runs y d
+
+  pub step-lines : h ≡ true → (s .depth ≡ 0 → ⊥) → s .steps < i .bounds .steps
+      → answered s (runLine bytes i offsets program s) ≡ stepOnce bytes i offsets program s
+  step-lines y d l = ap (answered s) (steps-left bytes i offsets program s l) ∙ step-runs y d
 
 -- the task's reading `r`, its verdict first
 module _ (bytes program : List ℕ) (s : Position) (r : Reading) (e : r ≡ readTask bytes) where

@@ -1,8 +1,9 @@
 -- `step::perform::act` meets its contract: questions 19 and 20 decide.
 -- Assumes nothing.
 use mathlib.Core.Path.{ap}
-use borrow.Author.Tests.{not-true, not-false}
+use borrow.Author.Tests.{not-true, not-false, eq-eqb, ne-eqb}
 use Rattle.task.specs.declared.index.Action.{Action}
+use Rattle.step.proofs.Laws.Effects.{clash-word, changed-word}
 use Rattle.step.proofs.Laws.Answers.{act-refused, act-clashes, act-moves}
 use borrow.Author.Needs.{needs}
 use Rattle.step.proofs.perform.act.Statement.{statement}
@@ -26,32 +27,26 @@ changes-of-requires c κs =
     let same = ap (λ (a : Action). a .effects) (at-action-at .action-at .ensures) in
     (same, rw same (at-action-at .before .before .pre))
 
-clash-free-requires : tie.Need-clash-free-requires
-clash-free-requires c κs = search needs
-
 returns-2 : tie.Need-returns-2
 returns-2 c =
-    let at-clash-free = c .before in
-    let at-changes-of = at-clash-free .before in
+    let at-changes-of = c .before .before in
+    let changes = at-changes-of .changes-of in
     let at-if1 = at-changes-of .before in
     let at-holds = at-if1 .before in
     let at-action-at = at-holds .before .before in
-    act-clashes _ _ _ _ (at-action-at .action-at .ensures) _ (at-holds .holds .ensures) (not-false _ (at-if1 .if1 .left)) _
-    (at-changes-of .changes-of .ensures) _ (at-clash-free .clash-free .ensures) (not-true _ (c .if2 .taken))
-
-changed-requires : tie.Need-changed-requires
-changed-requires c κs = search needs
+    act-clashes _ _ _ _ (at-action-at .action-at .ensures) _ (at-holds .holds .ensures) (not-false _ (at-if1 .if1 .left)) _ (changes .ensures) _
+    (clash-word (changes .result) (search needs)) (ne-eqb _ 0 (c .if2 .taken))
 
 returns-3 : tie.Need-returns-3
 returns-3 c =
-    let at-if2 = c .before in
-    let at-clash-free = at-if2 .before in
-    let at-changes-of = at-clash-free .before in
+    let at-if2 = c .before .before in
+    let at-changes-of = at-if2 .before .before in
+    let changes = at-changes-of .changes-of in
     let at-if1 = at-changes-of .before in
     let at-holds = at-if1 .before in
     let at-action-at = at-holds .before .before in
-    act-moves _ _ _ _ (at-action-at .action-at .ensures) _ (at-holds .holds .ensures) (not-false _ (at-if1 .if1 .left)) _
-    (at-changes-of .changes-of .ensures) _ (at-clash-free .clash-free .ensures) (not-false _ (at-if2 .if2 .left)) _ (c .changed .ensures)
+    act-moves _ _ _ _ (at-action-at .action-at .ensures) _ (at-holds .holds .ensures) (not-false _ (at-if1 .if1 .left)) _ (changes .ensures) _
+    (clash-word (changes .result) (search needs)) (eq-eqb _ 0 (at-if2 .if2 .left)) _ (changed-word _ (changes .result) (search needs) (search needs))
 
 pub act-spec : {M : Type 1} → statement M
 act-spec =
@@ -61,7 +56,5 @@ act-spec =
     holds-requires
     returns
     changes-of-requires
-    clash-free-requires
     returns-2
-    changed-requires
     returns-3)

@@ -12,11 +12,11 @@ mul-result : tie.Need-mul-result
 mul-result c = search needs
 
 element-copy-out-result : tie.Need-element-copy-out-result
-element-copy-out-result c = search needs
+element-copy-out-result c = c .number .ensures .1
 
 returns : tie.Need-returns
 unfolding origin
-returns c = rw (c .before .number .ensures)
+returns c = rw (c .before .number .ensures .0)
 
 pub frame-at-spec : {M : Type 1} → statement M
 frame-at-spec = tie.close (tie.spec number-requires mul-result element-copy-out-result returns)

@@ -6,11 +6,11 @@ use Rattle.step.proofs.possible.frame_fits.Tie as tie
 
 returns : tie.Need-returns
 unfolding inUse
-returns c = λ b e f. rw (c .if1 .taken, e, f)
+returns c = rw (c .before .before .before .before .if1 .taken)
 
 returns-2 : tie.Need-returns-2
 unfolding unused
-returns-2 c = λ b e f. rw (c .if1 .left)
+returns-2 c = rw (c .before .before .if1 .left)
 
 pub frame-fits-spec : {M : Type 1} → statement M
 frame-fits-spec = tie.close (tie.spec returns returns-2)

@@ -6,7 +6,6 @@ use mathlib.Core.Bool.{cond}
 use lib.Dec.{ltb}
 use lib.ListN.{getD}
 use native.Mathlib.Omega.{arith}
-use Rattle.task.specs.declared.bounds.Bounds.{Bounds}
 use Rattle.step.specs.Facts.{every}
 use Rattle.step.specs.Position.{origin}
 use Rattle.step.specs.Possible.{inUse, unused, frameFits}
@@ -17,15 +16,14 @@ use Rattle.step.proofs.possible.frames_fit.Statement.{statement}
 use Rattle.step.proofs.possible.frames_fit.Tie as tie
 
 abbrev Inv-loop : tie.InvT-loop
-Inv-loop procedures last position fit₀ k₀ fit k =
-    (k ≤ 16) × ((b : Bounds) → b .procedures ≡ procedures → b .last ≡ last → fit ≡ every k (frameFits b position))
+Inv-loop bounds position fit₀ k₀ fit k = (k ≤ 16) × (fit ≡ every k (frameFits bounds position))
 
 abbrev μ-loop : tie.MeasureT-loop
-μ-loop procedures last position fit₀ k₀ fit k = 16 - k
+μ-loop bounds position fit₀ k₀ fit k = 16 - k
 
 loop-holds : tie.Need-loop-holds Inv-loop μ-loop
 unfolding every
-loop-holds c = (search needs, λ b e f. refl)
+loop-holds c = (search needs, refl)
 
 add-frame-at : tie.Need-add-frame-at Inv-loop μ-loop
 add-frame-at c = search needs
@@ -48,12 +46,12 @@ loop-again c =
     let at-frame-at = c .before in
     let at-loop = at-frame-at .before .before .before in
     let k = at-loop .loop .k in
+    let b = at-loop .before .args .bounds in
     let s = at-loop .before .args .position in
     let back : k + 1 - 1 ≡ k = omega arith in (
       search needs,
-      λ b e f.
-          every-more (frameFits b s) k _ _ (at-loop .loop .inv .1 b e f)
-          (c .frame-fits .ensures b e f
+      every-more (frameFits b s) k _ _ (at-loop .loop .inv .1)
+          (c .frame-fits .ensures
           ∙ ap (λ (x : Frame). cond (ltb k (s .depth)) (inUse b x) (unused x))
           (at-frame-at .frame-at .ensures ∙ ap (λ (n : ℕ). getD (s .frames) n origin) back)),
     )
@@ -62,7 +60,7 @@ returns : tie.Need-returns Inv-loop μ-loop
 returns c =
     let at-loop = c .before in
     let all : at-loop .loop .k ≡ 16 = omega (arith, c .loop-test .left, at-loop .loop .inv .0) in
-    λ b e f. at-loop .loop .inv .1 b e f ∙ ap (λ (n : ℕ). every n (frameFits b (at-loop .before .args .position))) all
+    at-loop .loop .inv .1 ∙ ap (λ (n : ℕ). every n (frameFits (at-loop .before .args .bounds) (at-loop .before .args .position))) all
 
 pub frames-fit-spec : {M : Type 1} → statement M
 frames-fit-spec =

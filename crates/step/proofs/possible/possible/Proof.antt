@@ -1,35 +1,30 @@
--- `step::possible::possible` meets its contract: it is the conjunction of the five tests.
+-- `step::possible::possible` meets its contract: it is the conjunction of its tests.
 -- Assumes nothing.
 use borrow.Author.Needs.{needs}
-use mathlib.Core.Path.{refl}
 use mathlib.Core.Bool.{_&&_}
 use lib.Dec.{leb}
-use Rattle.step.specs.Possible.{depthFits, possible}
+use Rattle.step.specs.Possible.{possible}
+use Rattle.step.proofs.Laws.Possible.{depth-tests}
 use Rattle.step.proofs.possible.possible.Statement.{statement}
 use Rattle.step.proofs.possible.possible.Tie as tie
 
 within-requires : tie.Need-within-requires
 within-requires c κs = search needs
 
-depth-fits-requires : tie.Need-depth-fits-requires
-depth-fits-requires c κs = search needs
-
 frames-fit-requires : tie.Need-frames-fit-requires
 frames-fit-requires c κs = search needs
 
 returns : tie.Need-returns
-unfolding possible depthFits
+unfolding possible
 returns c =
-    let at-depth-fits = c .before in
-    let at-within = at-depth-fits .before .before .before .before .before in
+    let at-within = c .before .before .before .before .before .before .before .before in
     let args = at-within .before .before .before .args in
     λ i.
-    leb (args .position .case) (args .index .cases)
+    depth-tests (args .index) (args .position)
+    (leb (args .position .case) (args .index .cases)
     && at-within .within .ensures i
-    && leb (args .position .steps) (args .index .bounds .steps)
-    && at-depth-fits .depth-fits .ensures i
-    && c .frames-fit .ensures (args .index .bounds) refl refl i
+    && leb (args .position .steps) (args .index .bounds .steps)) i
+    && c .frames-fit .ensures i
 
 pub possible-spec : {M : Type 1} → statement M
-possible-spec =
-    tie.close (tie.spec within-requires depth-fits-requires frames-fit-requires returns)
+possible-spec = tie.close (tie.spec within-requires frames-fit-requires returns)

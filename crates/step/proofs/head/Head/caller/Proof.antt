@@ -1,16 +1,14 @@
+-- `step::head::Head::caller` meets its contract: the line grows.
+-- Assumes nothing.
 use mathlib.Core.Path.{refl}
 use Rattle.step.specs.Head.{callerOf}
 use borrow.Author.Needs.{needs}
 use Rattle.step.proofs.head.Head.caller.Statement.{statement}
 use Rattle.step.proofs.head.Head.caller.Tie as tie
-use Rattle.step.proofs.head.Head.caller.Reads as reads
-use Rattle.step.proofs.head.Head.caller.Lts as lts
 
--- src/head.rt:54:25
 add-t4 : tie.Need-add-t4
 add-t4 c = search needs
 
--- src/head.rt:49:5
 returns : tie.Need-returns
 unfolding callerOf
 returns c = refl

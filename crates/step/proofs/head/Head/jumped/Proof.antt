@@ -1,11 +1,10 @@
+-- `step::head::Head::jumped` meets its contract: one field changes.
+-- Assumes nothing.
 use mathlib.Core.Path.{refl}
 use Rattle.step.specs.Head.{jumpedHead}
 use Rattle.step.proofs.head.Head.jumped.Statement.{statement}
 use Rattle.step.proofs.head.Head.jumped.Tie as tie
-use Rattle.step.proofs.head.Head.jumped.Reads as reads
-use Rattle.step.proofs.head.Head.jumped.Lts as lts
 
--- src/head.rt:59:5
 returns : tie.Need-returns
 unfolding jumpedHead
 returns c = refl

@@ -1,16 +1,14 @@
+-- `step::head::Head::pushed` meets its contract: line 0 of the procedure is the top one.
+-- Assumes nothing.
 use mathlib.Core.Path.{refl}
 use Rattle.step.specs.Head.{pushedHead}
 use borrow.Author.Needs.{needs}
 use Rattle.step.proofs.head.Head.pushed.Statement.{statement}
 use Rattle.step.proofs.head.Head.pushed.Tie as tie
-use Rattle.step.proofs.head.Head.pushed.Reads as reads
-use Rattle.step.proofs.head.Head.pushed.Lts as lts
 
--- src/head.rt:83:20
 add-t3 : tie.Need-add-t3
 add-t3 c = search needs
 
--- src/head.rt:75:5
 returns : tie.Need-returns
 unfolding pushedHead
 returns c = refl

@@ -5,24 +5,47 @@ use Rattle.step.specs.Head.{stored}
 use Rattle.step.proofs.head.Head.stored.Statement.{statement}
 use Rattle.step.proofs.head.Head.stored.Tie as tie
 
-left-requires : tie.Need-left-requires
-left-requires c κs = search needs
+number-requires : tie.Need-number-requires
+number-requires c κs = c .before .pre .1
 
-with-frame-requires : tie.Need-with-frame-requires
-with-frame-requires c κs = search needs
+left-requires : tie.Need-left-requires
+left-requires c κs = c .before .before .pre .2
+
+mul-frames : tie.Need-mul-frames
+mul-frames c = search needs
+
+array-set-from-frames : tie.Need-array-set-from-frames
+array-set-from-frames c = c .before .number .ensures .1
+
+number-requires-2 : tie.Need-number-requires-2
+number-requires-2 c κs = c .before .before .before .pre .0
 
 top-requires : tie.Need-top-requires
-top-requires c κs = search needs
+top-requires c κs = tt
 
-with-frame-requires-2 : tie.Need-with-frame-requires-2
-with-frame-requires-2 c κs = search needs
+mul-frames-2 : tie.Need-mul-frames-2
+mul-frames-2 c = search needs
+
+array-set-from-frames-2 : tie.Need-array-set-from-frames-2
+array-set-from-frames-2 c = c .before .number2 .ensures .1
 
 returns : tie.Need-returns
 unfolding stored
 returns c =
-    let at-top = c .before in
-    let at-with-frame = at-top .before in
-    rw (c .with-frame2 .ensures, at-top .top .ensures, at-with-frame .with-frame .ensures, at-with-frame .before .left .ensures)
+    let at-number2 = c .before in
+    let at-left = at-number2 .before in
+    rw (c .top .ensures, at-number2 .number2 .ensures .0, at-left .left .ensures, at-left .before .number .ensures .0)
 
 pub stored-spec : {M : Type 1} → statement M
-stored-spec = tie.close (tie.spec left-requires with-frame-requires top-requires with-frame-requires-2 returns)
+stored-spec =
+    tie.close
+    (tie.spec
+    number-requires
+    left-requires
+    mul-frames
+    array-set-from-frames
+    number-requires-2
+    top-requires
+    mul-frames-2
+    array-set-from-frames-2
+    returns)
