@@ -21,6 +21,7 @@ use Rattle.task.specs.declared.instruction.Decoded.{Decoded}
 use Rattle.task.specs.declared.instruction.Decoded.the-variants.{Is, Nothing}
 use Rattle.task.specs.declared.instruction.Line.{Line}
 use Rattle.task.specs.declared.instruction.Proc.{Proc}
+use Rattle.task.specs.declared.reading.Progress.{Progress}
 use Rattle.task.specs.declared.reading.Reading.{Reading}
 use Rattle.task.specs.declared.verdict.Verdict.the-variants.{Accepted, Refused}
 
@@ -32,13 +33,8 @@ noIndex = record { bounds = record { facts = 0; procedures = 0; last = 0; stack 
 unfoldable pub noTask : Task
 noTask = record { index = noIndex; offsets = replicate 64 0; presets = replicate 768 0 }
 
--- how far the reading is: the next record's offset, the kind of the record before it, 0 at the start, and the index so far
-pub record Progress : Type 0 where
-  pub at : ℕ
-  pub last : ℕ
-  pub index : Index
-
--- where the reading stands: how far it is; the actions' offsets so far, 64 places; the preset program so far, 768 bytes
+-- where the reading stands: how far it is (the next record's offset, the kind of the record before it, 0 at the start, and the index so far); the
+-- actions' offsets so far, 64 places; the preset program so far, 768 bytes
 pub record State : Type 0 where
   pub progress : Progress
   pub offsets : List ℕ
@@ -107,10 +103,10 @@ module _ (bytes : List ℕ) (s : State) (body : ℕ) where
       })))
 
   -- the procedure and the line that a preset names
-  abbrev presetProc : Proc
+  abbrev pub presetProc : Proc
   presetProc = record { 0 = byteAt bytes body }
 
-  abbrev presetLine : Line
+  abbrev pub presetLine : Line
   presetLine = record { 0 = byteAt bytes (body + 1) }
 
   -- a preset whose instruction is decoded: question 7, then 8; the instruction is noted on its line

@@ -56,7 +56,6 @@ fn allowed_lines(index: Index, count: usize, program: &[u8]) -> usize
     requires { ⌜ 3 * count ≤ length (now program) ⌝ }
     ensures { λ r. ⌜ r ≡ firstNo (lineAllowed index (now (program .entry))) count ⌝ }
 {
-    let last = index.bounds.last;
     let mut k = 0;
     let mut line = 0;
     while k < count {
@@ -67,7 +66,11 @@ fn allowed_lines(index: Index, count: usize, program: &[u8]) -> usize
             triple_at(program, 3 * k),
         ) {
             k += 1;
-            line = if line < last { line + 1 } else { 0 };
+            line = if line < index.bounds.last {
+                line + 1
+            } else {
+                0
+            };
         } else {
             return k;
         }

@@ -34,15 +34,22 @@ ghost use mathlib.Core.List.{List};
 ghost use mathlib.Core.Bool.{true};
 ghost use lib.ListN.{length};
 ghost use Rattle.records.specs.declared.record.Found.the-variants.{Record};
-ghost use Rattle.task.specs.Reading.{Progress, mayStand, lengthFits, actionTurn, presetTurn, caseTurn, onRecord, noIndex, noTask, refused, readTask};
+ghost use Rattle.task.specs.Reading.{mayStand, lengthFits, actionTurn, presetTurn, caseTurn, onRecord, noIndex, noTask, refused, readTask};
 ghost use Rattle.task.specs.Bounds.{inRange};
-ghost use Rattle.task.specs.Outcome.{progress, state, withRecord, turned, readingOf};
+ghost use Rattle.task.specs.Outcome.{state, withRecord, turned, readingOf};
 
-// The answer to a record's questions: the reading goes on, the first question that says no and its place, or the file is closed.
+// How far the reading is: the next record's offset, the kind of the record before it, 0 at the start, and the index so far.
+pub struct Progress {
+    pub at: usize,
+    pub last: u16,
+    pub index: Index,
+}
+
+// The answer to questions 2 to 8 of a record: the reading goes on, the first question that says no, or it is the closing record.
 pub enum Answer {
     Yes,
-    No(u8, usize),
-    Closed,
+    No(u8),
+    Closing,
 }
 
 // What a file's records come to: the index of a task that passes, or the first question that says no and its place.
@@ -86,128 +93,101 @@ fn length_fits(kind: u16, size: usize) -> bool
 // An action: questions 4 and 6. Its offset is noted.
 fn ask_action(
     task: &[u8],
-    facts: u8,
-    actions: u8,
-    at: usize,
+    p: Progress,
     body: usize,
     size: usize,
     offsets: &mut [usize; 64],
 ) -> Answer
-    requires { ⌜ (body + size ≤ length (now task)) × (1 ≤ facts) × (facts ≤ 64) ⌝ }
-    ensures { λ r. ⌜ ((p : Progress) (next : ℕ) (q : List ℕ) →
-        p .at ≡ at
-        → p .index .bounds .facts ≡ facts
-        → p .index .actions ≡ actions
-        → turned (now (task .entry)) p 2 body next r (now (offsets .exit)) q
+    requires { ⌜ (body + size ≤ length (now task)) × (inRange (p .index .bounds) ≡ true) ⌝ }
+    ensures { λ r. ⌜ ((next : ℕ) (q : List ℕ) →
+        turned (now (task .entry)) p 2 body next r (now (offsets .exit)) q
         ≡ actionTurn (now (task .entry)) (state p (now (offsets .entry)) q) body size next) ⌝ }
 {
-    if 64 <= actions {
-        return Answer::No(COUNT, at);
+    if 64 <= p.index.actions {
+        return Answer::No(COUNT);
     }
     let pairs = size / 16;
-    if pairs_before_fault(task, body, pairs, facts) != pairs {
-        return Answer::No(SETS, at);
+    if pairs_before_fault(task, body, pairs, p.index.bounds.facts) != pairs {
+        return Answer::No(SETS);
     }
-    offsets[actions as usize] = at;
+    offsets[p.index.actions as usize] = p.at;
     Answer::Yes
 }
 
 // A preset: questions 7 and 8. Its instruction is noted on its line.
-fn ask_preset(
-    task: &[u8],
-    bounds: Bounds,
-    actions: u8,
-    at: usize,
-    body: usize,
-    presets: &mut [u8; 768],
-) -> Answer
-    requires { ⌜ (body + 5 ≤ length (now task)) × (inRange bounds ≡ true) × (length (now presets) ≡ 768) ⌝ }
-    ensures { λ r. ⌜ ((p : Progress) (next : ℕ) (o : List ℕ) →
-        p .at ≡ at
-        → p .index .bounds ≡ bounds
-        → p .index .actions ≡ actions
-        → turned (now (task .entry)) p 3 body next r o (now (presets .exit))
+fn ask_preset(task: &[u8], p: Progress, body: usize, presets: &mut [u8; 768]) -> Answer
+    requires { ⌜ (body + 5 ≤ length (now task)) × (inRange (p .index .bounds) ≡ true) × (length (now presets) ≡ 768) ⌝ }
+    ensures { λ r. ⌜ ((next : ℕ) (o : List ℕ) →
+        turned (now (task .entry)) p 3 body next r o (now (presets .exit))
         ≡ presetTurn (now (task .entry)) (state p o (now (presets .entry))) body next) ⌝ }
 {
     let procedure = Proc(task[body]);
     let line = Line(task[body + 1]);
     let triple = triple_at(task, body + 2);
-    if !decodes_for(bounds, actions, procedure, line, triple) {
-        return Answer::No(PRESET, at);
+    if !decodes_for(p.index.bounds, p.index.actions, procedure, line, triple) {
+        return Answer::No(PRESET);
     }
-    let offset = line_offset(bounds, procedure, line);
+    let offset = line_offset(p.index.bounds, procedure, line);
     if presets[offset] != 0 {
-        return Answer::No(REPEATED, at);
+        return Answer::No(REPEATED);
     }
     put_triple(presets, offset, triple);
     Answer::Yes
 }
 
 // A case: questions 4 and 6.
-fn ask_case(task: &[u8], facts: u8, cases: u8, at: usize, body: usize) -> Answer
-    requires { ⌜ (body + 24 ≤ length (now task)) × (1 ≤ facts) × (facts ≤ 64) ⌝ }
-    ensures { λ r. ⌜ ((p : Progress) (next : ℕ) (o q : List ℕ) →
-        p .at ≡ at
-        → p .index .bounds .facts ≡ facts
-        → p .index .cases ≡ cases
-        → turned (now (task .entry)) p 4 body next r o q ≡ caseTurn (now (task .entry)) (state p o q) body next) ⌝ }
+fn ask_case(task: &[u8], p: Progress, body: usize) -> Answer
+    requires { ⌜ (body + 24 ≤ length (now task)) × (inRange (p .index .bounds) ≡ true) ⌝ }
+    ensures { λ r. ⌜ ((next : ℕ) (o q : List ℕ) →
+        turned (now (task .entry)) p 4 body next r o q ≡ caseTurn (now (task .entry)) (state p o q) body next) ⌝ }
 {
-    if 32 <= cases {
-        return Answer::No(COUNT, at);
+    if 32 <= p.index.cases {
+        return Answer::No(COUNT);
     }
-    let most = most(facts);
+    let most = most(p.index.bounds.facts);
     if (eight_at(task, body) <= most) & consistent_to(most, literals_at(task, body + 8)) {
         return Answer::Yes;
     }
-    Answer::No(SETS, at)
+    Answer::No(SETS)
 }
 
-// Questions 2 to 9 of a record that is all there. An action's offset and a preset's instruction are noted.
+// Questions 2 to 8 of a record that is all there. An action's offset and a preset's instruction are noted.
 fn ask_record(
     task: &[u8],
-    index: Index,
-    at: usize,
-    last: u16,
+    p: Progress,
     kind: u16,
     body: usize,
     size: usize,
-    next: usize,
     offsets: &mut [usize; 64],
     presets: &mut [u8; 768],
 ) -> Answer
     requires { ⌜ (body + size ≤ length (now task))
-        × (mayStand last kind ≡ true → 2 ≤ kind → inRange (index .bounds) ≡ true)
+        × (mayStand (p .last) kind ≡ true → 2 ≤ kind → inRange (p .index .bounds) ≡ true)
         × (length (now presets) ≡ 768) ⌝ }
-    ensures { λ r. ⌜
-        turned (now (task .entry)) (progress at last index) kind body next r (now (offsets .exit)) (now (presets .exit))
+    ensures { λ r. ⌜ ((next : ℕ) →
+        turned (now (task .entry)) p kind body next r (now (offsets .exit)) (now (presets .exit))
         ≡ onRecord
         (now (task .entry))
-        (state (progress at last index) (now (offsets .entry)) (now (presets .entry)))
-        (Record kind body size next) ⌝ }
+        (state p (now (offsets .entry)) (now (presets .entry)))
+        (Record kind body size next)) ⌝ }
 {
-    if !may_stand(last, kind) {
-        return Answer::No(KIND, at);
+    if !may_stand(p.last, kind) {
+        return Answer::No(KIND);
     }
     if !length_fits(kind, size) {
-        return Answer::No(LENGTH, at);
+        return Answer::No(LENGTH);
     }
-    let bounds = index.bounds;
     match kind {
         1 => {
             if in_range(bounds_at(task, body)) {
                 return Answer::Yes;
             }
-            Answer::No(BOUNDS, at)
+            Answer::No(BOUNDS)
         }
-        2 => ask_action(task, bounds.facts, index.actions, at, body, size, offsets),
-        3 => ask_preset(task, bounds, index.actions, at, body, presets),
-        4 => ask_case(task, bounds.facts, index.cases, at, body),
-        _ => {
-            if next == task.len() {
-                return Answer::Closed;
-            }
-            Answer::No(CLOSED, next)
-        }
+        2 => ask_action(task, p, body, size, offsets),
+        3 => ask_preset(task, p, body, presets),
+        4 => ask_case(task, p, body),
+        _ => Answer::Closing,
     }
 }
 
@@ -276,28 +256,21 @@ fn read_records(task: &[u8], offsets: &mut [usize; 64], presets: &mut [u8; 768])
         else {
             return Ended::Refused(WHOLE, at);
         };
-        let answer = ask_record(
-            task,
-            index,
-            at,
-            last,
-            kind,
-            body,
-            length,
-            next,
-            offsets,
-            presets,
-        );
+        let p = Progress { at, last, index };
+        let answer = ask_record(task, p, kind, body, length, offsets, presets);
         match answer {
             Answer::Yes => {
                 index = with_record(task, index, kind, at, body);
                 last = kind;
                 at = next;
             }
-            Answer::No(question, place) => {
-                return Ended::Refused(question, place);
+            Answer::No(question) => {
+                return Ended::Refused(question, at);
             }
-            Answer::Closed => {
+            Answer::Closing => {
+                if next != task.len() {
+                    return Ended::Refused(CLOSED, next);
+                }
                 return Ended::Passed(index);
             }
         }

@@ -7,13 +7,25 @@ use mathlib.Core.List.{List}
 use native.Mathlib.Nat.{lt-of-lt-of-le, lt-of-not-le}
 use native.Mathlib.Decide.{decLe}
 use native.Mathlib.Omega.{arith}
+use lib.ListN.{length}
 use lib.Bits.{bitAnd, bitOr, and-le-l, and-le-r, or-add-and, or-lt}
 use lib.Dec.{eqb, leb}
 use lib.Pow.{pow-pos, pow-mono, ones-split, ones-lt, high}
 use borrow.Author.Tests.{lt-ltb, le-ltb, le-leb, lt-leb, eq-eqb, ne-eqb}
+use Rattle.records.specs.Numbers.{eightAt}
+use Rattle.records.proofs.Laws.Numbers.{u64-there}
 use Rattle.task.proofs.Laws.First.{found-all}
 use Rattle.task.specs.Facts.{literalsAt, within, Greatest, consistent, pairConsistent, pairsBeforeFault}
 use Rattle.task.specs.declared.facts.Literals.{Literals}
+
+-- the two sets of a pair, given its 16 bytes
+pub literals-there : (bytes : List ℕ) (at positive negative : ℕ) → at + 16 ≤ length bytes → positive ≡ eightAt bytes at → negative ≡ eightAt bytes (at + 8)
+    → record { positive = positive; negative = negative } ≡ literalsAt bytes at
+unfolding literalsAt
+literals-there bytes at positive negative h =
+    let first : at + 8 ≤ length bytes = omega arith in
+    let second : at + 8 + 8 ≤ length bytes = omega arith in
+    λ e f i. record { positive = u64-there bytes at positive e first i; negative = u64-there bytes (at + 8) negative f second i }
 
 -- below no fact there is the empty set alone, and below 64 facts every word
 pub within-none : (facts set : ℕ) → facts ≡ 0 → eqb set 0 ≡ within facts set

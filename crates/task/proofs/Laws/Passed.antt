@@ -26,10 +26,11 @@ use Rattle.task.specs.Facts.{literalsAt, within, consistent, pairsBefore
 use Rattle.task.specs.Index.{actionAt, effectAt, caseAt}
 use Rattle.task.specs.Instruction.{encode}
 use Rattle.task.specs.Program.{lineOffset}
-use Rattle.task.specs.Reading.{State, noIndex, noTask, begin, refused, accepted, headerTurn, actionTurn, onPreset, presetTurn, caseTurn, closeTurn, readTask, turnOf, Progress, mayStand}
+use Rattle.task.specs.Reading.{State, noIndex, noTask, begin, refused, accepted, headerTurn, actionTurn, onPreset, presetTurn, caseTurn, closeTurn, readTask, turnOf, mayStand}
 use Rattle.task.specs.declared.index.Task.{Task}
 use Rattle.task.specs.declared.instruction.Decoded.{Decoded}
 use Rattle.task.specs.declared.instruction.Decoded.the-variants.{Is, Nothing}
+use Rattle.task.specs.declared.reading.Progress.{Progress}
 use Rattle.task.specs.declared.reading.Reading.{Reading}
 use Rattle.task.specs.declared.verdict.Verdict.the-variants.{Accepted}
 

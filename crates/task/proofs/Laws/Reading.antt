@@ -20,10 +20,10 @@ use Rattle.task.specs.Bounds.{boundsAt, inRange}
 use Rattle.task.specs.Facts.{literalsAt, within, Greatest, consistent, pairsBeforeFault}
 use Rattle.task.specs.Instruction.{decodeFor, encode, tripleAt, withTriple}
 use Rattle.task.specs.Program.{lineOffset, isInstruction}
-use Rattle.task.proofs.Laws.Instruction.{not-instruction, instruction-is, decoded-for}
+use Rattle.task.proofs.Laws.Instruction.{not-instruction, instruction-is, decoded-for, decoded-there}
 use Rattle.task.specs.Outcome.{state, withRecord, turned}
-use Rattle.task.specs.Questions.{KIND, LENGTH, COUNT, BOUNDS, SETS, PRESET, REPEATED, CLOSED}
-use Rattle.task.specs.Reading.{Progress, State, mayStand, byKind, lengthFits, headerTurn, actionTurn, onPreset, presetTurn, caseTurn, closeTurn, kindTurn, onRecord}
+use Rattle.task.specs.Questions.{KIND, LENGTH, COUNT, BOUNDS, SETS, PRESET, REPEATED}
+use Rattle.task.specs.Reading.{State, mayStand, byKind, lengthFits, headerTurn, actionTurn, onPreset, presetTurn, caseTurn, kindTurn, onRecord, presetProc, presetLine}
 use Rattle.task.specs.declared.bounds.Bounds.{Bounds}
 use Rattle.task.specs.declared.facts.Literals.{Literals}
 use Rattle.task.specs.declared.index.Index.{Index}
@@ -33,7 +33,8 @@ use Rattle.task.specs.declared.instruction.Triple.{Triple}
 use Rattle.task.specs.declared.instruction.Instruction.{Instruction}
 use Rattle.task.specs.declared.instruction.Decoded.the-variants.{Is}
 use Rattle.task.specs.declared.reading.Answer.{Answer}
-use Rattle.task.specs.declared.reading.Answer.the-variants.{Yes, No, Closed}
+use Rattle.task.specs.declared.reading.Answer.the-variants.{Yes, No, Closing}
+use Rattle.task.specs.declared.reading.Progress.{Progress}
 use Rattle.task.specs.declared.reading.Reading.{Reading}
 
 module _ {A : Type 0} (kind : ℕ) (header action preset case close : A) where
@@ -93,89 +94,98 @@ module _ (bytes : List ℕ) (i : Index) (kind at body : ℕ) where
       either true = refl
       either false = refl
 
-module _ (bytes : List ℕ) (p : Progress) (at body next : ℕ) (o q : List ℕ) (e : p .at ≡ at) where
+module _ (bytes : List ℕ) (p : Progress) (body next : ℕ) (o q : List ℕ) where
   module _ (b : Bounds) (r : Bool) (f : b ≡ boundsAt bytes body) (g : r ≡ inRange b) where
-    pub header-no : r ≡ false → turned bytes p 1 body next (No BOUNDS at) o q ≡ headerTurn bytes (state p o q) body next
+    pub header-no : r ≡ false → turned bytes p 1 body next (No BOUNDS) o q ≡ headerTurn bytes (state p o q) body next
     unfolding turned headerTurn
-    header-no h = rw (← e) (ask-no _ _ _ (cc))
+    header-no h = ask-no _ _ _ (cc)
 
     pub header-yes : r ≡ true → turned bytes p 1 body next Yes o q ≡ headerTurn bytes (state p o q) body next
     unfolding turned headerTurn withRecord byKind
     header-yes h = ask-yes _ _ _ (cc)
 
-  module _ (size actions : ℕ) (n : p .index .actions ≡ actions) where
-    pub action-full : 64 ≤ actions → turned bytes p 2 body next (No COUNT at) o q ≡ actionTurn bytes (state p o q) body size next
+  module _ (size : ℕ) where
+    pub action-full : 64 ≤ p .index .actions → turned bytes p 2 body next (No COUNT) o q ≡ actionTurn bytes (state p o q) body size next
     unfolding turned actionTurn
-    action-full h = rw (← e) (ask-no _ _ _ (le-ltb (p .index .actions) 64 (omega arith)))
+    action-full h = ask-no _ _ _ (le-ltb (p .index .actions) 64 h)
 
-    module _ (facts pairs : ℕ) (h : actions < 64) (f : p .index .bounds .facts ≡ facts)
-        (g : pairs ≡ pairsBeforeFault facts bytes body (size / 16)) where
-      counted : ltb (p .index .actions) 64 ≡ true
-      counted = lt-ltb (p .index .actions) 64 (omega arith)
+    module _ (pairs : ℕ) (h : p .index .actions < 64) (g : pairs ≡ pairsBeforeFault (p .index .bounds .facts) bytes body (size / 16)) where
+      few-actions : ltb (p .index .actions) 64 ≡ true
+      few-actions = lt-ltb (p .index .actions) 64 h
 
-      found : pairs ≡ pairsBeforeFault (p .index .bounds .facts) bytes body (size / 16)
-      found = cc
-
-      pub action-no : (pairs ≡ size / 16 → ⊥) → turned bytes p 2 body next (No SETS at) o q ≡ actionTurn bytes (state p o q) body size next
+      pub action-no : (pairs ≡ size / 16 → ⊥) → turned bytes p 2 body next (No SETS) o q ≡ actionTurn bytes (state p o q) body size next
       unfolding turned actionTurn
-      action-no k = rw (← e) (ask-no _ _ _ (rw (← found) (ne-eqb pairs (size / 16) k)) ∙ ask-yes _ _ _ counted)
+      action-no k = ask-no _ _ _ (rw (← g) (ne-eqb pairs (size / 16) k)) ∙ ask-yes _ _ _ few-actions
 
       pub action-yes : pairs ≡ size / 16
-          → turned bytes p 2 body next Yes (set o actions at) q ≡ actionTurn bytes (state p o q) body size next
+          → turned bytes p 2 body next Yes (set o (p .index .actions) (p .at)) q ≡ actionTurn bytes (state p o q) body size next
       unfolding turned actionTurn withRecord byKind
-      action-yes y = rw (← e, ← n) (ask-yes _ _ _ (rw (← found) (eq-eqb pairs (size / 16) y)) ∙ ask-yes _ _ _ counted)
+      action-yes y = ask-yes _ _ _ (rw (← g) (eq-eqb pairs (size / 16) y)) ∙ ask-yes _ _ _ few-actions
 
-  module _ (b : Bounds) (actions : ℕ) (procedure : Proc) (line : Line) (t : Triple) (r : Bool)
-      (e₁ : procedure ≡ record { 0 = byteAt bytes body }) (e₂ : line ≡ record { 0 = byteAt bytes (body + 1) })
-      (e₃ : t ≡ tripleAt bytes (body + 2)) (e₄ : p .index .bounds ≡ b) (e₅ : p .index .actions ≡ actions)
-      (e₆ : r ≡ isInstruction (decodeFor b actions procedure line t)) where
-    on-preset : onPreset bytes (state p o q) body next (decodeFor b actions procedure line t) ≡ presetTurn bytes (state p o q) body next
+  abbrev procedure : Proc
+  procedure = presetProc bytes (state p o q) body
+
+  abbrev line : Line
+  line = presetLine bytes (state p o q) body
+
+  module _ (t : Triple) (r : Bool) (e : t ≡ tripleAt bytes (body + 2))
+      (g : r ≡ isInstruction (decodeFor (p .index .bounds) (p .index .actions) procedure line t)) where
+    on-preset : onPreset bytes (state p o q) body next (decodeFor (p .index .bounds) (p .index .actions) procedure line t) ≡ presetTurn bytes (state p o q) body next
     unfolding presetTurn
-    on-preset = rw (← e₄, ← e₅, e₁, e₂, e₃) refl
+    on-preset = rw e refl
 
-    pub preset-no : r ≡ false → turned bytes p 3 body next (No PRESET at) o q ≡ presetTurn bytes (state p o q) body next
+    pub preset-no : r ≡ false → turned bytes p 3 body next (No PRESET) o q ≡ presetTurn bytes (state p o q) body next
     unfolding turned onPreset
-    preset-no h = rw (← e) (rw (not-instruction _ (sym e₆ ∙ h)) at on-preset)
+    preset-no h = rw (not-instruction _ (sym g ∙ h)) at on-preset
 
-    module _ (offset byte : ℕ) (f : offset ≡ lineOffset b procedure line) (g : byte ≡ byteAt q offset) (y : r ≡ true) where
-      here : byte ≡ byteAt q (lineOffset (p .index .bounds) (record { 0 = byteAt bytes body }) (record { 0 = byteAt bytes (body + 1) }))
-      here = cc
+    module _ (offset : ℕ) (f : offset ≡ lineOffset (p .index .bounds) procedure line) (y : r ≡ true) where
+      some : (w : Instruction) × (decodeFor (p .index .bounds) (p .index .actions) procedure line t ≡ Is w)
+      some = instruction-is _ (sym g ∙ y)
 
-      some : (w : Instruction) × (decodeFor b actions procedure line t ≡ Is w)
-      some = instruction-is _ (sym e₆ ∙ y)
-
-      pub preset-again : (byte ≡ 0 → ⊥) → turned bytes p 3 body next (No REPEATED at) o q ≡ presetTurn bytes (state p o q) body next
+      pub preset-again : (byteAt q offset ≡ 0 → ⊥) → turned bytes p 3 body next (No REPEATED) o q ≡ presetTurn bytes (state p o q) body next
       unfolding turned onPreset
-      preset-again n = rw (← e) (ask-no _ _ _ (rw (← here) (ne-eqb byte 0 n)) ∙ rw (some .1) at on-preset)
+      preset-again n = ask-no _ _ _ (rw (← f) (ne-eqb (byteAt q offset) 0 n)) ∙ rw (some .1) at on-preset
 
-      pub preset-yes : (q′ : List ℕ) → q′ ≡ withTriple q offset t → byte ≡ 0
+      pub preset-yes : (q′ : List ℕ) → q′ ≡ withTriple q offset t → byteAt q offset ≡ 0
           → turned bytes p 3 body next Yes o q′ ≡ presetTurn bytes (state p o q) body next
       unfolding turned onPreset withRecord byKind
       preset-yes q′ h z =
-          let written : q′ ≡ withTriple q (lineOffset (p .index .bounds) (record { 0 = byteAt bytes body }) (record { 0 = byteAt bytes (body + 1) })) (encode (some .0)) =
-          cc (decoded-for b actions procedure line t (some .0) (some .1) .encodes) in
-          rw written (ask-yes _ _ _ (rw (← here) (eq-eqb byte 0 z)) ∙ rw (some .1) at on-preset)
+          let written : q′ ≡ withTriple q (lineOffset (p .index .bounds) procedure line) (encode (some .0)) =
+          cc (decoded-for _ _ procedure line t (some .0) (some .1) .encodes) in
+          rw written (ask-yes _ _ _ (rw (← f) (eq-eqb (byteAt q offset) 0 z)) ∙ rw (some .1) at on-preset)
 
-  module _ (cases : ℕ) (n : p .index .cases ≡ cases) where
-    pub case-full : 32 ≤ cases → turned bytes p 4 body next (No COUNT at) o q ≡ caseTurn bytes (state p o q) body next
+  pub case-full : 32 ≤ p .index .cases → turned bytes p 4 body next (No COUNT) o q ≡ caseTurn bytes (state p o q) body next
+  unfolding turned caseTurn
+  case-full h = ask-no _ _ _ (le-ltb (p .index .cases) 32 h)
+
+  module _ (h : p .index .cases < 32) (there : body + 24 ≤ length bytes) (most set : ℕ) (goal : Literals) (c : Bool)
+      (greatest : Greatest (p .index .bounds .facts) most) (e₁ : goal ≡ literalsAt bytes (body + 8)) (e₂ : c ≡ consistent (p .index .bounds .facts) goal)
+      (small : set < 2 ^ 64) (e₃ : set ≡ eightAt bytes body) where
+    few-cases : ltb (p .index .cases) 32 ≡ true
+    few-cases = lt-ltb (p .index .cases) 32 h
+
+    sets : (leb set most && c) ≡ (within (p .index .bounds .facts) (u64At bytes body) && consistent (p .index .bounds .facts) (literalsAt bytes (body + 8)))
+    sets = cc (greatest set small, u64-there bytes body set e₃ (omega arith))
+
+    pub case-no : (leb set most && c) ≡ false → turned bytes p 4 body next (No SETS) o q ≡ caseTurn bytes (state p o q) body next
     unfolding turned caseTurn
-    case-full h = rw (← e) (ask-no _ _ _ (le-ltb (p .index .cases) 32 (omega arith)))
+    case-no k = ask-no _ _ _ (sym sets ∙ k) ∙ ask-yes _ _ _ few-cases
 
-    module _ (facts most : ℕ) (f : p .index .bounds .facts ≡ facts) (h : cases < 32) (set : ℕ) (goal : Literals) (c : Bool) (there : body + 24 ≤ length bytes)
-        (greatest : Greatest facts most) (small : set < 2 ^ 64) (e₁ : set ≡ eightAt bytes body) (e₂ : goal ≡ literalsAt bytes (body + 8)) (e₃ : c ≡ consistent facts goal) where
-      few : ltb (p .index .cases) 32 ≡ true
-      few = lt-ltb (p .index .cases) 32 (omega arith)
+    pub case-yes : (leb set most && c) ≡ true → turned bytes p 4 body next Yes o q ≡ caseTurn bytes (state p o q) body next
+    unfolding turned caseTurn withRecord byKind
+    case-yes y = ask-yes _ _ _ (sym sets ∙ y) ∙ ask-yes _ _ _ few-cases
 
-      sets : (leb set most && c) ≡ (within (p .index .bounds .facts) (u64At bytes body) && consistent (p .index .bounds .facts) (literalsAt bytes (body + 8)))
-      sets = cc (greatest set small, u64-there bytes body set e₁ (omega arith))
+-- the line of a preset that question 7 lets pass lies in the array
+module _ (b : Bounds) (actions : ℕ) (procedure : Proc) (line : Line) (t : Triple) (r : Bool) (e : r ≡ isInstruction (decodeFor b actions procedure line t))
+    (y : r ≡ true) (h : inRange b ≡ true) (offset : ℕ) (f : offset ≡ lineOffset b procedure line) where
+  room : offset + 3 ≤ 768
+  room = rw f (decoded-there b actions procedure line t (sym e ∙ y) h)
 
-      pub case-no : (leb set most && c) ≡ false → turned bytes p 4 body next (No SETS at) o q ≡ caseTurn bytes (state p o q) body next
-      unfolding turned caseTurn
-      case-no k = rw (← e) (ask-no _ _ _ (sym sets ∙ k) ∙ ask-yes _ _ _ few)
+  pub preset-line : offset < 768
+  preset-line = let k = room in omega arith
 
-      pub case-yes : (leb set most && c) ≡ true → turned bytes p 4 body next Yes o q ≡ caseTurn bytes (state p o q) body next
-      unfolding turned caseTurn withRecord byKind
-      case-yes y = ask-yes _ _ _ (sym sets ∙ y) ∙ ask-yes _ _ _ few
+  pub preset-room : (q : List ℕ) → length q ≡ 768 → offset + 3 ≤ length q
+  preset-room q l = rw l room
 
 -- a body in the file, of the length that question 3 asks of its kind
 module _ (kind body size end : ℕ) (there : body + size ≤ end) (fit : lengthFits kind size ≡ true) where
@@ -198,15 +208,6 @@ module _ (kind body size end : ℕ) (there : body + size ≤ end) (fit : lengthF
 pub body-there : (bytes : List ℕ) (at : ℕ) (f : Found) → f ≡ recordAt bytes at → (kind body size next : ℕ) → f ≡ Record kind body size next
     → body + size ≤ length bytes
 body-there bytes at f e kind body size next r = omega (arith, record-ends bytes at kind body size next (sym e ∙ r))
-
-module _ (bytes : List ℕ) (p : Progress) (body next : ℕ) (o q : List ℕ) where
-  pub close-no : (next ≡ length bytes → ⊥) → turned bytes p 5 body next (No CLOSED next) o q ≡ closeTurn bytes (state p o q) next
-  unfolding turned closeTurn
-  close-no h = ask-no _ _ _ (ne-eqb next (length bytes) h)
-
-  pub close-yes : next ≡ length bytes → turned bytes p 5 body next Closed o q ≡ closeTurn bytes (state p o q) next
-  unfolding turned closeTurn
-  close-yes h = ask-yes _ _ _ (eq-eqb next (length bytes) h)
 
 -- what the kind asks, kind by kind
 module _ (bytes : List ℕ) (p : Progress) (kind body size next : ℕ) (a : Answer) (o q o′ q′ : List ℕ) where
@@ -234,19 +235,21 @@ module _ (bytes : List ℕ) (p : Progress) (kind body size next : ℕ) (a : Answ
   unfolding kindTurn
   kind-case e f = turned-kind 4 e _ f (by-case _ _ _ _ _ _ e)
 
-  pub kind-close : (1 ≤ kind) × (kind ≤ 5) → (kind ≡ 1 → ⊥) → (kind ≡ 2 → ⊥) → (kind ≡ 3 → ⊥) → (kind ≡ 4 → ⊥)
-      → Turned 5 ≡ closeTurn bytes (state p o q) next → Turned kind ≡ kindTurn bytes (state p o q) kind body size next
-  unfolding kindTurn
-  kind-close h n₁ n₂ n₃ n₄ f = turned-kind 5 (omega arith) _ f (by-close _ _ _ _ _ _ n₁ n₂ n₃ n₄)
+-- any other kind is the closing record; question 9 is still to ask
+pub kind-close : (bytes : List ℕ) (p : Progress) (kind body size next : ℕ) (o q : List ℕ)
+    → (kind ≡ 1 → ⊥) → (kind ≡ 2 → ⊥) → (kind ≡ 3 → ⊥) → (kind ≡ 4 → ⊥)
+    → turned bytes p kind body next Closing o q ≡ kindTurn bytes (state p o q) kind body size next
+unfolding turned kindTurn
+kind-close bytes p kind body size next o q n₁ n₂ n₃ n₄ = by-close _ _ _ _ _ _ n₁ n₂ n₃ n₄
 
 -- questions 2 and 3 of a record
 module _ (bytes : List ℕ) (p : Progress) (kind body size next : ℕ) (o q : List ℕ) (m : Bool) (g : m ≡ mayStand (p .last) kind) where
-  pub kind-no : m ≡ false → turned bytes p kind body next (No KIND (p .at)) o q ≡ onRecord bytes (state p o q) (Record kind body size next)
+  pub kind-no : m ≡ false → turned bytes p kind body next (No KIND) o q ≡ onRecord bytes (state p o q) (Record kind body size next)
   unfolding turned onRecord
   kind-no h = ask-no _ _ _ (sym g ∙ h)
 
   module _ (y : m ≡ true) (l : Bool) (k : l ≡ lengthFits kind size) where
-    pub length-no : l ≡ false → turned bytes p kind body next (No LENGTH (p .at)) o q ≡ onRecord bytes (state p o q) (Record kind body size next)
+    pub length-no : l ≡ false → turned bytes p kind body next (No LENGTH) o q ≡ onRecord bytes (state p o q) (Record kind body size next)
     unfolding turned onRecord
     length-no h = ask-no _ _ _ (sym k ∙ h) ∙ ask-yes _ _ _ (sym g ∙ y)
 

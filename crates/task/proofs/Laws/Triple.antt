@@ -7,7 +7,7 @@ use mathlib.Core.Bool.{true, _&&_}
 use mathlib.Core.List.{List}
 use native.Mathlib.Omega.{arith}
 use lib.ListN.{length, set, length-set}
-use lib.Seq.{getD-set-same, getD-set-other}
+use lib.Seq.{getD-set-same, getD-set-other, set-getD}
 use lib.Dec.{eqb}
 use borrow.Author.Tests.{eqb-true, eq-eqb}
 use Rattle.records.specs.Numbers.{byteAt}
@@ -65,6 +65,11 @@ same-triple v w h =
 pub triple-same : (w : Triple) → sameTriple w w ≡ true
 unfolding sameTriple
 triple-same w = simp (eq-eqb (w .op) (w .op) refl, eq-eqb (w .p) (w .p) refl, eq-eqb (w .q) (w .q) refl)
+
+-- three bytes that are there already
+pub put-same : (bytes : List ℕ) (at : ℕ) → withTriple bytes at (tripleAt bytes at) ≡ bytes
+unfolding withTriple tripleAt
+put-same bytes at = rw (set-getD bytes at 0, set-getD bytes (at + 1) 0, set-getD bytes (at + 2) 0) refl
 
 -- three bytes put on line number k are there, and those of every other line stay
 module _ (program : List ℕ) (k : ℕ) (w : Triple) where

@@ -8,19 +8,21 @@ use mathlib.Core.List.{List}
 use native.Mathlib.Omega.{arith}
 use lib.ListN.{length}
 use lib.Dec.{eqb}
+use borrow.Author.Tests.{eq-eqb, ne-eqb}
 use Rattle.records.specs.Loop.{Turn, stop, go, ask, after, loop}
 use Rattle.records.specs.Record.{recordAt}
 use Rattle.records.specs.declared.record.Found.{Found}
 use Rattle.records.specs.declared.record.Found.the-variants.{Record, Missing}
-use Rattle.records.proofs.Laws.Loop.{stop-go, unroll}
+use Rattle.records.proofs.Laws.Loop.{stop-go, unroll, ask-yes, ask-no}
 use Rattle.records.proofs.Laws.Record.{record-ends}
-use Rattle.task.specs.Outcome.{progress, state, withRecord, turned}
-use Rattle.task.specs.Questions.{WHOLE}
-use Rattle.task.specs.Reading.{Progress, State, begin, refused, accepted, byKind, lengthFits, headerTurn, actionTurn, onPreset, presetTurn, caseTurn, closeTurn, kindTurn, onRecord, turnOf, left, readTask}
+use Rattle.task.specs.Outcome.{state, withRecord, turned}
+use Rattle.task.specs.Questions.{WHOLE, CLOSED}
+use Rattle.task.specs.Reading.{State, begin, refused, accepted, byKind, lengthFits, headerTurn, actionTurn, onPreset, presetTurn, caseTurn, closeTurn, kindTurn, onRecord, turnOf, left, readTask}
 use Rattle.task.specs.declared.instruction.Decoded.{Decoded}
 use Rattle.task.specs.declared.instruction.Decoded.the-variants.{Is, Nothing}
 use Rattle.task.specs.declared.reading.Answer.{Answer}
-use Rattle.task.specs.declared.reading.Answer.the-variants.{Yes, No, Closed}
+use Rattle.task.specs.declared.reading.Answer.the-variants.{Yes, No, Closing}
+use Rattle.task.specs.declared.reading.Progress.{Progress}
 use Rattle.task.specs.declared.reading.Reading.{Reading}
 
 -- a turn that goes on goes to the offset `next`
@@ -132,16 +134,21 @@ module _ (bytes : List ℕ) (p : Progress) (o q : List ℕ) (f : Found) (e : f �
     unfolding turnOf
     turn-is = rw (← e, r) t
 
-    pub turn-no : (question place : ℕ) → a ≡ No question place → stop (refused question place) ≡ turnOf bytes (state p o q)
+    pub turn-no : (question : ℕ) → a ≡ No question → stop (refused question (p .at)) ≡ turnOf bytes (state p o q)
     unfolding turned
-    turn-no question place h = rw h at turn-is
+    turn-no question h = rw h at turn-is
 
-    pub turn-closed : a ≡ Closed → stop (accepted (record { index = p .index; offsets = o′; presets = q′ })) ≡ turnOf bytes (state p o q)
-    unfolding turned
-    turn-closed h = rw h at turn-is
+    module _ (h : a ≡ Closing) where
+      pub turn-trailing : (next ≡ length bytes → ⊥) → stop (refused CLOSED next) ≡ turnOf bytes (state p o q)
+      unfolding turned closeTurn
+      turn-trailing n = ask-no _ _ _ (ne-eqb next (length bytes) n) ∙ rw h at turn-is
+
+      pub turn-closed : next ≡ length bytes → stop (accepted (record { index = p .index; offsets = o′; presets = q′ })) ≡ turnOf bytes (state p o q)
+      unfolding turned closeTurn
+      turn-closed y = ask-yes _ _ _ (eq-eqb next (length bytes) y) ∙ rw h at turn-is
 
     module _ (y : a ≡ Yes) where
-      pub turn-next : go (state (progress next kind (withRecord bytes (p .index) kind (p .at) body)) o′ q′) ≡ turnOf bytes (state p o q)
+      pub turn-next : go (state (record { at = next; last = kind; index = withRecord bytes (p .index) kind (p .at) body }) o′ q′) ≡ turnOf bytes (state p o q)
       unfolding turned
       turn-next = rw y at turn-is
 

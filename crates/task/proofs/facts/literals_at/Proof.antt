@@ -1,10 +1,7 @@
 -- `task::facts::literals_at` meets its contract: both sets are there.
 -- Assumes nothing.
-use Prim.Native.Nat.{_+_}
 use borrow.Author.Needs.{needs}
-use native.Mathlib.Omega.{arith}
-use Rattle.records.proofs.Laws.Numbers.{u64-there}
-use Rattle.task.specs.Facts.{literalsAt}
+use Rattle.task.proofs.Laws.Facts.{literals-there}
 use Rattle.task.proofs.facts.literals_at.Statement.{statement}
 use Rattle.task.proofs.facts.literals_at.Tie as tie
 
@@ -18,12 +15,9 @@ eight-at-requires-2 : tie.Need-eight-at-requires-2
 eight-at-requires-2 c κs = search needs
 
 returns : tie.Need-returns
-unfolding literalsAt
 returns c =
-    let a = c .before .before .before .args in
-    let positive = u64-there (a .bytes .now) (a .at) _ (c .before .eight-at .ensures) (omega arith) in
-    let negative = u64-there (a .bytes .now) (a .at + 8) _ (c .eight-at2 .ensures) (omega arith) in
-    λ i. record { positive = positive i; negative = negative i }
+    let at-start = c .before .before .before in
+    literals-there (at-start .args .bytes .now) (at-start .args .at) _ _ (at-start .pre) (c .before .eight-at .ensures) (c .eight-at2 .ensures)
 
 pub literals-at-spec : {M : Type 1} → statement M
 literals-at-spec =

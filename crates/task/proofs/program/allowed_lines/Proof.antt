@@ -13,10 +13,10 @@ use Rattle.task.proofs.program.allowed_lines.Statement.{statement}
 use Rattle.task.proofs.program.allowed_lines.Tie as tie
 
 abbrev Inv-loop : tie.InvT-loop
-Inv-loop index count program last k₀ line₀ k line = Searching (lineAllowed index program) count k × (line ≡ k % (last + 1))
+Inv-loop index count program k₀ line₀ k line = Searching (lineAllowed index program) count k × (line ≡ k % (index .bounds .last + 1))
 
 abbrev μ-loop : tie.MeasureT-loop
-μ-loop index count program last k₀ line₀ k line = count - k
+μ-loop index count program k₀ line₀ k line = count - k
 
 loop-holds : tie.Need-loop-holds Inv-loop μ-loop
 loop-holds c = (searching _ _, sym (mod-eq-of-lt (omega arith)))
@@ -41,7 +41,7 @@ loop-less c = search needs
 
 loop-again : tie.Need-loop-again Inv-loop μ-loop
 loop-again c =
-    let at-if1 = c .before in
+    let at-if1 = c .before .before in
     let at-decodes = at-if1 .before in
     let at-triple-at = at-decodes .before in
     let at-loop-test = at-triple-at .before in
@@ -55,7 +55,7 @@ loop-less-2 c = search needs
 
 loop-again-2 : tie.Need-loop-again-2 Inv-loop μ-loop
 loop-again-2 c =
-    let at-if1 = c .before in
+    let at-if1 = c .before .before in
     let at-decodes = at-if1 .before in
     let at-triple-at = at-decodes .before in
     let at-loop-test = at-triple-at .before in

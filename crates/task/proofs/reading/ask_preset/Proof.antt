@@ -1,11 +1,9 @@
 -- `task::reading::ask_preset` meets its contract: questions 7 and 8 decide, and the line is put where it belongs.
 -- Assumes nothing.
+use native.Mathlib.Omega.{arith}
 use borrow.Author.Needs.{needs}
 use borrow.Author.Tests.{not-true, not-false}
-use mathlib.Core.Path.{refl, sym, _∙_}
-use native.Mathlib.Omega.{arith}
-use Rattle.task.proofs.Laws.Instruction.{decoded-there}
-use Rattle.task.proofs.Laws.Reading.{preset-no, preset-again, preset-yes}
+use Rattle.task.proofs.Laws.Reading.{preset-line, preset-room, preset-no, preset-again, preset-yes}
 use Rattle.task.proofs.reading.ask_preset.Statement.{statement}
 use Rattle.task.proofs.reading.ask_preset.Tie as tie
 
@@ -31,7 +29,7 @@ returns : tie.Need-returns
 returns c =
     let at-decodes-for = c .before in
     let at-triple-at = at-decodes-for .before in
-    λ p next o e b a. preset-no _ p _ _ next o _ e _ _ _ _ _ _ refl refl (at-triple-at .triple-at .ensures) b a (at-decodes-for .decodes-for .ensures) (not-true _ (c .if1 .taken))
+    λ next o. preset-no _ _ _ next o _ _ _ (at-triple-at .triple-at .ensures) (at-decodes-for .decodes-for .ensures) (not-true _ (c .if1 .taken))
 
 line-offset-requires : tie.Need-line-offset-requires
 line-offset-requires c κs = tt
@@ -41,7 +39,7 @@ element-copy-out-if2 c =
     let at-if1 = c .before in
     let at-decodes-for = at-if1 .before in
     let at-start = at-decodes-for .before .before .before .before .before in
-    omega (arith, c .line-offset .ensures, decoded-there _ _ _ _ _ (sym (at-decodes-for .decodes-for .ensures) ∙ not-false _ (at-if1 .if1 .left)) (at-start .pre .1))
+    preset-line _ _ _ _ _ _ (at-decodes-for .decodes-for .ensures) (not-false _ (at-if1 .if1 .left)) (at-start .pre .1) _ (c .line-offset .ensures)
 
 returns-2 : tie.Need-returns-2
 returns-2 c =
@@ -49,8 +47,8 @@ returns-2 c =
     let at-if1 = at-line-offset .before in
     let at-decodes-for = at-if1 .before in
     let at-triple-at = at-decodes-for .before in
-    λ p next o e b a. preset-again _ p _ _ next o _ e _ _ _ _ _ _ refl refl (at-triple-at .triple-at .ensures) b a (at-decodes-for .decodes-for .ensures) _ _
-    (at-line-offset .line-offset .ensures) refl (not-false _ (at-if1 .if1 .left)) (c .if2 .taken)
+    λ next o. preset-again _ _ _ next o _ _ _ (at-triple-at .triple-at .ensures) (at-decodes-for .decodes-for .ensures) _
+    (at-line-offset .line-offset .ensures) (not-false _ (at-if1 .if1 .left)) (omega (arith, c .if2 .taken))
 
 put-triple-requires : tie.Need-put-triple-requires
 put-triple-requires c κs =
@@ -58,7 +56,7 @@ put-triple-requires c κs =
     let at-if1 = at-line-offset .before in
     let at-decodes-for = at-if1 .before in
     let at-start = at-decodes-for .before .before .before .before .before in
-    omega (arith, at-start .pre .2, at-line-offset .line-offset .ensures, decoded-there _ _ _ _ _ (sym (at-decodes-for .decodes-for .ensures) ∙ not-false _ (at-if1 .if1 .left)) (at-start .pre .1))
+    preset-room _ _ _ _ _ _ (at-decodes-for .decodes-for .ensures) (not-false _ (at-if1 .if1 .left)) (at-start .pre .1) _ (at-line-offset .line-offset .ensures) (at-start .args .presets .now) (at-start .pre .2)
 
 returns-3 : tie.Need-returns-3
 returns-3 c =
@@ -67,8 +65,8 @@ returns-3 c =
     let at-if1 = at-line-offset .before in
     let at-decodes-for = at-if1 .before in
     let at-triple-at = at-decodes-for .before in
-    λ p next o e b a. preset-yes _ p _ _ next o _ e _ _ _ _ _ _ refl refl (at-triple-at .triple-at .ensures) b a (at-decodes-for .decodes-for .ensures) _ _
-    (at-line-offset .line-offset .ensures) refl (not-false _ (at-if1 .if1 .left)) _ (c .put-triple .ensures) (at-if2 .if2 .left)
+    λ next o. preset-yes _ _ _ next o _ _ _ (at-triple-at .triple-at .ensures) (at-decodes-for .decodes-for .ensures) _
+    (at-line-offset .line-offset .ensures) (not-false _ (at-if1 .if1 .left)) _ (c .put-triple .ensures) (omega (arith, at-if2 .if2 .left))
 
 pub ask-preset-spec : {M : Type 1} → statement M
 ask-preset-spec =

@@ -4,17 +4,17 @@ use Prim.Native.Nat.{_-_}
 use borrow.Author.Needs.{needs}
 use mathlib.Core.Path.{_≡_, sym}
 use lib.ListN.{length}
-use Rattle.task.specs.Outcome.{progress, state, readingOf}
+use Rattle.task.specs.Outcome.{state, readingOf}
 use Rattle.task.specs.Reading.{begin, readTask}
 use Rattle.task.proofs.Laws.Passed.{Reached, begin-reached, next-reached, next-bounded}
 use Rattle.task.proofs.Laws.Reading.{body-there, header-body}
-use Rattle.task.proofs.Laws.Turns.{from, from-begin, from-next, from-stop, falls, turn-missing, turn-no, turn-closed, turn-next, next-fits}
+use Rattle.task.proofs.Laws.Turns.{from, from-begin, from-next, from-stop, falls, turn-missing, turn-no, turn-trailing, turn-closed, turn-next, next-fits}
 use Rattle.task.proofs.reading.read_records.Statement.{statement}
 use Rattle.task.proofs.reading.read_records.Tie as tie
 
 abbrev Inv-loop : tie.InvT-loop
 Inv-loop task offsets₀ presets₀ at₀ last₀ index₀ offsets presets at last index =
-    let s = state (progress at last index) offsets presets in (from task s ≡ readTask task) × Reached task s
+    let s = state (record { at = at; last = last; index = index }) offsets presets in (from task s ≡ readTask task) × Reached task s
 
 abbrev μ-loop : tie.MeasureT-loop
 μ-loop task offsets₀ presets₀ at₀ last₀ index₀ offsets presets at last index = length task - at
@@ -62,7 +62,7 @@ with-record-requires c κs =
     let at-loop = at-record-at .before in
     let counted = at-loop .loop .inv .1 .counted in
     let there = body-there _ _ _ (at-record-at .record-at .ensures) _ _ _ _ (at-found .found .given .1) in
-    (header-body _ _ _ _ there (next-fits _ _ _ _ _ (at-record-at .record-at .ensures) _ _ _ _ (at-found .found .given .1) _ _ _ (at-ask-record .ask-record .ensures) (c .enum-told2 .given .1)), counted .actions, counted .cases)
+    (header-body _ _ _ _ there (next-fits _ _ _ _ _ (at-record-at .record-at .ensures) _ _ _ _ (at-found .found .given .1) _ _ _ (at-ask-record .ask-record .ensures _) (c .enum-told2 .given .1)), counted .actions, counted .cases)
 
 loop-less : tie.Need-loop-less Inv-loop μ-loop
 loop-less c =
@@ -70,7 +70,7 @@ loop-less c =
     let at-ask-record = at-enum-told2 .before .before in
     let at-found = at-ask-record .before .before .before .before in
     let at-record-at = at-found .before .before in
-    falls _ _ _ (sym (turn-next _ _ _ _ _ (at-record-at .record-at .ensures) _ _ _ _ (at-found .found .given .1) _ _ _ (at-ask-record .ask-record .ensures) (at-enum-told2 .enum-told2 .given .1)))
+    falls _ _ _ (sym (turn-next _ _ _ _ _ (at-record-at .record-at .ensures) _ _ _ _ (at-found .found .given .1) _ _ _ (at-ask-record .ask-record .ensures _) (at-enum-told2 .enum-told2 .given .1)))
 
 loop-again : tie.Need-loop-again Inv-loop μ-loop
 loop-again c =
@@ -79,7 +79,7 @@ loop-again c =
     let at-found = at-ask-record .before .before .before .before in
     let at-record-at = at-found .before .before in
     let at-loop = at-record-at .before in
-    let turn = turn-next _ _ _ _ _ (at-record-at .record-at .ensures) _ _ _ _ (at-found .found .given .1) _ _ _ (at-ask-record .ask-record .ensures) (at-enum-told2 .enum-told2 .given .1) in
+    let turn = turn-next _ _ _ _ _ (at-record-at .record-at .ensures) _ _ _ _ (at-found .found .given .1) _ _ _ (at-ask-record .ask-record .ensures _) (at-enum-told2 .enum-told2 .given .1) in
     rw (c .with-record .ensures) (from-next _ _ (at-loop .loop .inv .0) _ turn, next-reached _ _ _ (at-loop .loop .inv .1) turn)
 
 enum-known-answer : tie.Need-enum-known-answer Inv-loop μ-loop
@@ -93,7 +93,7 @@ returns-2 c =
     let at-found = at-ask-record .before .before .before .before in
     let at-record-at = at-found .before .before in
     let at-loop = at-record-at .before in
-    from-stop _ _ (at-loop .loop .inv .0) _ (turn-no _ _ _ _ _ (at-record-at .record-at .ensures) _ _ _ _ (at-found .found .given .1) _ _ _ (at-ask-record .ask-record .ensures) _ _ (at-answer .answer .given .1))
+    from-stop _ _ (at-loop .loop .inv .0) _ (turn-no _ _ _ _ _ (at-record-at .record-at .ensures) _ _ _ _ (at-found .found .given .1) _ _ _ (at-ask-record .ask-record .ensures _) _ (at-answer .answer .given .1))
 
 enum-told-3 : tie.Need-enum-told-3 Inv-loop μ-loop
 enum-told-3 c = search needs
@@ -101,11 +101,22 @@ enum-told-3 c = search needs
 returns-3 : tie.Need-returns-3 Inv-loop μ-loop
 unfolding readingOf
 returns-3 c =
-    let at-ask-record = c .before .before in
+    let at-enum-told3 = c .before in
+    let at-ask-record = at-enum-told3 .before .before in
     let at-found = at-ask-record .before .before .before .before in
     let at-record-at = at-found .before .before in
     let at-loop = at-record-at .before in
-    from-stop _ _ (at-loop .loop .inv .0) _ (turn-closed _ _ _ _ _ (at-record-at .record-at .ensures) _ _ _ _ (at-found .found .given .1) _ _ _ (at-ask-record .ask-record .ensures) (c .enum-told3 .given .1))
+    from-stop _ _ (at-loop .loop .inv .0) _ (turn-trailing _ _ _ _ _ (at-record-at .record-at .ensures) _ _ _ _ (at-found .found .given .1) _ _ _ (at-ask-record .ask-record .ensures _) (at-enum-told3 .enum-told3 .given .1) (c .if1 .taken))
+
+returns-4 : tie.Need-returns-4 Inv-loop μ-loop
+unfolding readingOf
+returns-4 c =
+    let at-enum-told3 = c .before in
+    let at-ask-record = at-enum-told3 .before .before in
+    let at-found = at-ask-record .before .before .before .before in
+    let at-record-at = at-found .before .before in
+    let at-loop = at-record-at .before in
+    from-stop _ _ (at-loop .loop .inv .0) _ (turn-closed _ _ _ _ _ (at-record-at .record-at .ensures) _ _ _ _ (at-found .found .given .1) _ _ _ (at-ask-record .ask-record .ensures _) (at-enum-told3 .enum-told3 .given .1) (c .if1 .left))
 
 pub read-records-spec : {M : Type 1} → statement M
 read-records-spec =
@@ -127,4 +138,5 @@ read-records-spec =
     enum-known-answer
     returns-2
     enum-told-3
-    returns-3)
+    returns-3
+    returns-4)
