@@ -78,16 +78,16 @@ poppedHead h below = placed h (h .depth - 1) below
 unfoldable pub headWith : Head → ℕ → Head
 headWith h facts = record { facts = facts; steps = h .steps; case = h .case; depth = h .depth; procedure = h .procedure; line = h .line }
 
--- the next case: its number grows by 1, with this depth and these facts, at line 0 of procedure 0
-abbrev pub caseHead : Head → ℕ → ℕ → Head
-caseHead h depth facts =
-    record { facts = facts; steps = h .steps; case = h .case + 1; depth = depth; procedure = record { 0 = 0 }; line = record { 0 = 0 } }
+-- the case of this number, with this depth and these facts, at line 0 of procedure 0
+abbrev pub caseHead : Head → ℕ → ℕ → ℕ → Head
+caseHead h case depth facts =
+    record { facts = facts; steps = h .steps; case = case; depth = depth; procedure = record { 0 = 0 }; line = record { 0 = 0 } }
 
 unfoldable pub nextHead : Head → ℕ → Head
-nextHead h start = caseHead h 1 start
+nextHead h start = caseHead h (h .case + 1) 1 start
 
 unfoldable pub finishedHead : Head → Head
-finishedHead h = caseHead h 0 (h .facts)
+finishedHead h = caseHead h (h .case + 1) 0 (h .facts)
 
 unfoldable pub countedHead : Head → Head
 countedHead h =

@@ -5,8 +5,6 @@ use task::index::effect_at;
 ghost use mathlib.Core.Path.{_≡_};
 ghost use Prim.Native.Nat.{_+_, _*_, _≤_};
 ghost use lib.ListN.{length};
-ghost use mathlib.Core.Bool.{cond};
-ghost use lib.Bits.{bitOr};
 ghost use Rattle.task.specs.Index.{actionAt};
 ghost use Rattle.step.specs.Effects.{effectsOf, changesOf};
 
@@ -14,16 +12,6 @@ ghost use Rattle.step.specs.Effects.{effectsOf, changesOf};
 pub struct Changes {
     pub raised: u64,
     pub lowered: u64,
-}
-
-// A set, with the facts of another if an effect fires.
-fn joined(fires: bool, set: u64, more: u64) -> u64
-    ensures { λ r. ⌜ r ≡ cond fires (bitOr set more) set ⌝ }
-{
-    if fires {
-        return set | more;
-    }
-    set
 }
 
 // What the effects of the action at an offset, so many of them, change in a state.
@@ -36,11 +24,11 @@ pub(crate) fn changes_of(task: &[u8], at: usize, effects: u16, state: u64) -> Ch
     let mut e = 0;
     while e < effects {
         let effect = effect_at(task, at, e);
-        let condition = effect.condition;
-        let fires = holds(state, condition);
-        raised = joined(fires, raised, effect.raised);
-        lowered = joined(fires, lowered, effect.lowered);
         e += 1;
+        if holds(state, effect.condition.positive, effect.condition.negative) {
+            raised = raised | effect.raised;
+            lowered = lowered | effect.lowered;
+        }
     }
     Changes { raised, lowered }
 }

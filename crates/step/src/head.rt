@@ -14,7 +14,7 @@ ghost use mathlib.Core.Path.{_≡_};
 ghost use Prim.Native.Nat.{_+_, _*_, _≤_, _<_};
 ghost use lib.ListN.{length};
 ghost use Rattle.task.specs.Index.{caseAt};
-ghost use Rattle.step.specs.Head.{headOf, stored, leftBy, startingHead, topOf, callerOf, jumpedHead, advancedHead, pushedHead, poppedHead, caseHead, countedHead, movedHead, Fits};
+ghost use Rattle.step.specs.Head.{headOf, stored, startingHead, callerOf, jumpedHead, advancedHead, pushedHead, poppedHead, caseHead, countedHead, movedHead, Fits};
 
 // A position without the frames below its top one. The facts stand last, so that the compiler keeps each field as a value of its own.
 pub struct Head {
@@ -61,30 +61,26 @@ impl Head {
         }
     }
 
-    // The frame that a move to a depth leaves behind: a call's own to come back to, else a freed one, (0, 0).
-    pub(crate) fn left(self, depth: u8) -> Frame
-        requires { ⌜ self .line .0 < 255 ⌝ }
-        ensures { λ r. ⌜ r ≡ leftBy self depth ⌝ }
-    {
-        if self.depth < depth {
-            return self.caller();
-        }
-        Frame {
-            procedure: Proc(0),
-            line: Line(0),
-        }
-    }
-
     // The position after a move to this head from another: the frame that is left behind, and the top one.
     pub(crate) fn stored(self, before: Head, position: Position) -> Position
         requires { ⌜ (self .depth ≤ 16) × (before .depth ≤ 16) × (before .line .0 < 255) ⌝ }
         ensures { λ r. ⌜ r ≡ stored before self position ⌝ }
     {
         let mut frames = position.frames;
+        // A call leaves its own frame, to come back to; any other move a freed one, (0, 0).
+        let mut behind = Frame {
+            procedure: Proc(0),
+            line: Line(0),
+        };
+        if before.depth < self.depth {
+            behind = before.caller();
+        }
         let old = number(before.depth);
-        frames[old] = before.left(self.depth);
+        frames[old] = behind;
         let new = number(self.depth);
-        frames[new] = self.top();
+        let procedure = self.procedure;
+        let line = self.line;
+        frames[new] = Frame { procedure, line };
         Position {
             facts: self.facts,
             steps: self.steps,
@@ -92,15 +88,6 @@ impl Head {
             depth: self.depth,
             frames,
         }
-    }
-
-    // The top frame.
-    fn top(self) -> Frame
-        ensures { λ r. ⌜ r ≡ topOf self ⌝ }
-    {
-        let procedure = self.procedure;
-        let line = self.line;
-        Frame { procedure, line }
     }
 
     // The frame to come back to after a call.
@@ -161,15 +148,14 @@ impl Head {
         }
     }
 
-    // The case's number grows by 1: with one frame the next case from its start, with none the finish.
-    fn next_case(self, depth: u8, facts: u64) -> Head
-        requires { ⌜ self .case < 255 ⌝ }
-        ensures { λ r. ⌜ r ≡ caseHead self depth facts ⌝ }
+    // The next case, given its number: with one frame it begins at its start, with none the run is finished.
+    fn next_case(self, case: u8, depth: u8, facts: u64) -> Head
+        ensures { λ r. ⌜ r ≡ caseHead self case depth facts ⌝ }
     {
         Head {
             facts,
             steps: self.steps,
-            case: self.case + 1,
+            case,
             depth,
             procedure: Proc(0),
             line: Line(0),
@@ -212,9 +198,9 @@ impl Head {
                 let next = self.case + 1;
                 if next < index.cases {
                     let case = case_at(task, index.first, next);
-                    return self.next_case(1, case.start);
+                    return self.next_case(next, 1, case.start);
                 }
-                return self.next_case(0, self.facts);
+                return self.next_case(next, 0, self.facts);
             }
         }
     }

@@ -45,8 +45,11 @@ fn act(task: &[u8], at: usize, facts: u64) -> Asked
         s .facts ≡ facts → performedAs (now (task .entry)) i s (Act action) r ≡ act (now (task .entry)) at s) ⌝ }
 {
     let action = action_at(task, at);
-    let precondition = action.precondition;
-    if !holds(facts, precondition) {
+    if !holds(
+        facts,
+        action.precondition.positive,
+        action.precondition.negative,
+    ) {
         return Asked::No(PRECONDITION);
     }
     let changes = changes_of(task, at, action.effects, facts);
@@ -81,11 +84,10 @@ pub fn ask(task: &[u8], index: Index, offsets: &[usize; 64], head: Head, w: Inst
                 return Asked::Facts(head.facts);
             }
             let last = case_at(task, index.first, head.case);
-            let goal = last.goal;
-            if !holds(head.facts, goal) {
-                return Asked::No(GOAL);
+            if holds(head.facts, last.goal.positive, last.goal.negative) {
+                return Asked::Facts(head.facts);
             }
-            return Asked::Facts(head.facts);
+            return Asked::No(GOAL);
         }
     }
 }

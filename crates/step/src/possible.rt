@@ -1,33 +1,27 @@
 // Question 31: whether a position is possible.
-use crate::position::Frame;
 use crate::position::Position;
 use crate::position::frame_at;
 use task::bounds::Bounds;
 use task::facts::within;
 use task::index::Index;
 ghost use mathlib.Core.Path.{_≡_};
-ghost use mathlib.Core.Bool.{cond};
 ghost use Rattle.step.specs.Facts.{every};
-ghost use Rattle.step.specs.Possible.{inUse, unused, frameFits, possible};
+ghost use Rattle.step.specs.Possible.{frameFits, possible};
 
-// Whether a frame fits: in use, a procedure below b and a line 0 to n; else (0, 0).
-fn frame_fits(bounds: Bounds, used: bool, frame: Frame) -> bool
-    ensures { λ r. ⌜ r ≡ cond used (inUse bounds frame) (unused frame) ⌝ }
-{
-    if used {
-        return (frame.procedure.0 < bounds.procedures) & (frame.line.0 <= bounds.last);
-    }
-    (frame.procedure.0 == 0) & (frame.line.0 == 0)
-}
-
-// Whether every frame fits.
+// Whether every frame fits: in use, a procedure below b and a line 0 to n; else (0, 0).
 fn frames_fit(bounds: Bounds, position: Position) -> bool
     ensures { λ r. ⌜ r ≡ every 16 (frameFits bounds position) ⌝ }
 {
     let mut fit = true;
     let mut k = 0;
     while k < 16 {
-        fit = fit & frame_fits(bounds, k < position.depth, frame_at(position, k + 1));
+        let frame = frame_at(position, k + 1);
+        let fits = if k < position.depth {
+            (frame.procedure.0 < bounds.procedures) & (frame.line.0 <= bounds.last)
+        } else {
+            (frame.procedure.0 == 0) & (frame.line.0 == 0)
+        };
+        fit = fit & fits;
         k += 1;
     }
     fit

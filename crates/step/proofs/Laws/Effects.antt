@@ -38,16 +38,17 @@ module _ (bytes : List ℕ) (at state count : ℕ) (part : Effect → ℕ) where
   with-one true w f x rest = ap (λ (b : Bool). b || someHas part rest f) (has-or w (part x) f) ∙ or-assoc (has w f) (has (part x) f) (someHas part rest f)
   with-one false w f x rest = refl
 
+  -- `b` says whether it fires
   pub walk-on : (e w : ℕ) → Walked e w → e < count → (x : Effect) → x ≡ effectAt bytes at e → (b : Bool) → b ≡ holds state (x .condition)
-      → (v : ℕ) → v ≡ cond b (bitOr w (part x)) w → v < 2 ^ 64 → Walked (e + 1) v
+      → cond b (bitOr w (part x)) w < 2 ^ 64 → Walked (e + 1) (cond b (bitOr w (part x)) w)
   unfolding effectsFrom fired
-  walk-on e w h l x i b j v k m =
+  walk-on e w h l x i b j m =
       let n : count - e ≡ suc (count - suc e) = omega arith in
       record {
         below = omega arith;
         small = m;
         found =
-            λ f. rw (k, add-one) (with-one b w f x (fired state (effectsFrom bytes at (suc e) (count - suc e))) ∙ rw (j, i) (rw n at (h .found f)));
+            λ f. rw add-one (with-one b w f x (fired state (effectsFrom bytes at (suc e) (count - suc e))) ∙ rw (j, i) (rw n at (h .found f)));
       }
 
   pub walk-ends : (e w : ℕ) → Walked e w → count ≤ e → w ≡ setOf 64 (someHas part (fired state (effectsFrom bytes at 0 count)))

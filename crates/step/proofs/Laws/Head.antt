@@ -35,7 +35,7 @@ module _ (bytes : List ℕ) (i : Index) (h : Head) (below : Frame) (r : Head) wh
 
   -- with one frame
   module _ (l : h .depth ≤ 1) where
-    pub ended-begins : h .case + 1 < i .cases → (x : Case) → x ≡ caseAt bytes (i .first) (h .case + 1) → r ≡ caseHead h 1 (x .start)
+    pub ended-begins : h .case + 1 < i .cases → (x : Case) → x ≡ caseAt bytes (i .first) (h .case + 1) → r ≡ caseHead h (h .case + 1) 1 (x .start)
         → r ≡ endedHead bytes i h below
     unfolding endedHead nextHead
     ended-begins m x e k =
@@ -43,7 +43,7 @@ module _ (bytes : List ℕ) (i : Index) (h : Head) (below : Frame) (r : Head) wh
         ∙ cond-yes _ true _ _ (sym (lt-ltb (h .case + 1) (i .cases) m)) refl
         ∙ cond-no _ false _ _ (sym (le-ltb 1 (h .depth) l)) refl
 
-    pub ended-finishes : i .cases ≤ h .case + 1 → r ≡ caseHead h 0 (h .facts) → r ≡ endedHead bytes i h below
+    pub ended-finishes : i .cases ≤ h .case + 1 → r ≡ caseHead h (h .case + 1) 0 (h .facts) → r ≡ endedHead bytes i h below
     unfolding endedHead finishedHead
     ended-finishes m k =
         k ∙ cond-no _ false _ _ (sym (le-ltb (h .case + 1) (i .cases) m)) refl ∙ cond-no _ false _ _ (sym (le-ltb 1 (h .depth) l)) refl

@@ -50,9 +50,9 @@ module _ (bytes : List ℕ) (i : Index) (offsets program : List ℕ) (s : Positi
   unfolding answered
   step-late y d l = ap (answered s) (steps-used bytes i offsets program s l) ∙ step-runs y d
 
-  pub step-lines : h ≡ true → (s .depth ≡ 0 → ⊥) → s .steps < i .bounds .steps
-      → answered s (runLine bytes i offsets program s) ≡ stepOnce bytes i offsets program s
-  step-lines y d l = ap (answered s) (steps-left bytes i offsets program s l) ∙ step-runs y d
+  pub step-lines : h ≡ true → (s .depth ≡ 0 → ⊥) → s .steps < i .bounds .steps → (r : Stepped) → r ≡ answered s (runLine bytes i offsets program s)
+      → r ≡ stepOnce bytes i offsets program s
+  step-lines y d l r k = k ∙ ap (answered s) (steps-left bytes i offsets program s l) ∙ step-runs y d
 
 -- the task's reading `r`, its verdict first
 module _ (bytes program : List ℕ) (s : Position) (r : Reading) (e : r ≡ readTask bytes) where

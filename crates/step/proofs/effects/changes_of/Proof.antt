@@ -1,7 +1,9 @@
 -- `step::effects::changes_of` meets its contract: effect by effect the words come to have what the fired effects have.
 -- Assumes nothing.
-use borrow.Author.Needs.{needs}
+use mathlib.Core.Path.{sym, _∙_}
+use mathlib.Core.Bool.{true, false}
 use native.Mathlib.Omega.{arith}
+use lib.Bits.{or-lt}
 use Prim.Native.Nat.{_-_}
 use Rattle.task.specs.declared.index.Effect.{Effect}
 use Rattle.step.specs.Effects.{effectsOf, changesOf}
@@ -24,34 +26,44 @@ effect-at-requires c κs =
     let at-start = c .before .before .before in
     omega (arith, c .loop-test .taken, at-start .pre .1)
 
+add-e : tie.Need-add-e Inv-loop μ-loop
+add-e c = record { fits = omega (arith, c .before .loop-test .taken, c .before .before .before .before .fits .effects .fits) }
+
 holds-requires : tie.Need-holds-requires Inv-loop μ-loop
 holds-requires c κs = tt
 
-joined-requires : tie.Need-joined-requires Inv-loop μ-loop
-joined-requires c κs = tt
-
-joined-requires-2 : tie.Need-joined-requires-2 Inv-loop μ-loop
-joined-requires-2 c κs = tt
-
-add-e : tie.Need-add-e Inv-loop μ-loop
-add-e c = search needs
-
 loop-less : tie.Need-loop-less Inv-loop μ-loop
-loop-less c = search needs
+loop-less c = omega (arith, c .before .before .before .before .before .loop-test .taken)
 
 loop-again : tie.Need-loop-again Inv-loop μ-loop
 loop-again c =
-    let at-joined = c .before in
-    let at-holds = at-joined .before in
-    let at-effect-at = at-holds .before .before in
+    let at-holds = c .before .before .before in
+    let at-effect-at = at-holds .before in
     let at-loop-test = at-effect-at .before in
-    let at-loop = at-loop-test .before in
-    let walked = at-loop .loop .inv in
+    let loop = at-loop-test .before .loop in
+    let a = at-loop-test .before .before .before .args in
     let less = at-loop-test .loop-test .taken in
-    let effect = at-effect-at .effect-at .ensures in
-    let fires = at-holds .holds .ensures in (
-      walk-on _ _ _ _ _ _ _ (walked .0) less _ effect _ fires _ (at-joined .joined .ensures) (search needs),
-      walk-on _ _ _ _ _ _ _ (walked .1) less _ effect _ fires _ (c .joined2 .ensures) (search needs),
+    let x = at-effect-at .effect-at in
+    let fires = sym (c .before .before .if1 .taken) ∙ at-holds .holds .ensures in (
+      walk-on (a .task .now) (a .at) (a .state) (a .effects) (λ (y : Effect). y .raised) (loop .e) (loop .raised) (loop .inv .0) less (x .result) (x .ensures) true fires (or-lt 64 (loop .raised) (x .result .raised) (loop .inv .0 .small) (c .before .struct-known .given .1 .0 .fits)),
+      walk-on (a .task .now) (a .at) (a .state) (a .effects) (λ (y : Effect). y .lowered) (loop .e) (loop .lowered) (loop .inv .1) less (x .result) (x .ensures) true fires (or-lt 64 (loop .lowered) (x .result .lowered) (loop .inv .1 .small) (c .struct-known2 .given .1 .1 .0 .fits)),
+    )
+
+loop-less-2 : tie.Need-loop-less-2 Inv-loop μ-loop
+loop-less-2 c = omega (arith, c .before .before .before .loop-test .taken)
+
+loop-again-2 : tie.Need-loop-again-2 Inv-loop μ-loop
+loop-again-2 c =
+    let at-holds = c .before in
+    let at-effect-at = at-holds .before in
+    let at-loop-test = at-effect-at .before in
+    let loop = at-loop-test .before .loop in
+    let a = at-loop-test .before .before .before .args in
+    let less = at-loop-test .loop-test .taken in
+    let x = at-effect-at .effect-at in
+    let fires = sym (c .if1 .left) ∙ at-holds .holds .ensures in (
+      walk-on (a .task .now) (a .at) (a .state) (a .effects) (λ (y : Effect). y .raised) (loop .e) (loop .raised) (loop .inv .0) less (x .result) (x .ensures) false fires (loop .inv .0 .small),
+      walk-on (a .task .now) (a .at) (a .state) (a .effects) (λ (y : Effect). y .lowered) (loop .e) (loop .lowered) (loop .inv .1) less (x .result) (x .ensures) false fires (loop .inv .1 .small),
     )
 
 returns : tie.Need-returns Inv-loop μ-loop
@@ -70,10 +82,10 @@ changes-of-spec =
     μ-loop
     loop-holds
     effect-at-requires
-    holds-requires
-    joined-requires
-    joined-requires-2
     add-e
+    holds-requires
     loop-less
     loop-again
+    loop-less-2
+    loop-again-2
     returns)

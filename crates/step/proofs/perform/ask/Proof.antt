@@ -2,7 +2,6 @@
 -- Assumes nothing.
 use mathlib.Core.Path.{refl}
 use native.Mathlib.Omega.{arith}
-use borrow.Author.Tests.{not-true, not-false}
 use Rattle.step.specs.Moved.{Keeps, performedAs, movedBy}
 use Rattle.step.specs.Perform.{perform, goto}
 use Rattle.step.specs.Questions.{EMPTY}
@@ -13,10 +12,10 @@ use Rattle.step.proofs.perform.ask.Statement.{statement}
 use Rattle.step.proofs.perform.ask.Tie as tie
 
 enum-told : tie.Need-enum-told
-enum-told c = search needs
+enum-told c = c .match .keys1
 
 enum-known-w : tie.Need-enum-known-w
-enum-known-w c = search needs
+enum-known-w c = c .match .keys2
 
 cast-act : tie.Need-cast-act
 cast-act c = search needs
@@ -35,13 +34,13 @@ act-requires c κs =
     pre .0 .action _ (pre .2 _ (c .before .before .w .given .1))
 
 enum-told-2 : tie.Need-enum-told-2
-enum-told-2 c = search needs
+enum-told-2 c = c .match .keys3
 
 enum-told-3 : tie.Need-enum-told-3
-enum-told-3 c = search needs
+enum-told-3 c = c .match .keys4
 
 enum-told-4 : tie.Need-enum-told-4
-enum-told-4 c = search needs
+enum-told-4 c = c .match .keys5
 
 case-at-requires : tie.Need-case-at-requires
 case-at-requires c κs = let pre = c .before .before .before .before .before .pre in omega (arith, pre .0 .case, pre .1)
@@ -93,25 +92,25 @@ returns-7 : tie.Need-returns-7
 unfolding perform Keeps
 returns-7 c =
     let at-holds = c .before in
-    let at-case-at = at-holds .before .before in
+    let at-case-at = at-holds .before in
     let at-if2 = at-case-at .before in
     let a = at-if2 .before .before .before .before .before .args in
     let h = a .head in
-    let ends = end-refused (a .task .now) (a .index) (h .facts) (h .case) (h .depth) (at-if2 .if2 .left) (at-case-at .case-at .result)
-    (at-case-at .case-at .ensures) (at-holds .holds .result) (at-holds .holds .ensures) (not-true _ (c .if3 .taken)) in
-    (asks-as (a .task .now) (a .index) (a .offsets .now) (a .head .facts) (a .head .case) (a .head .depth) (a .w) _ (at-if2 .before .before .enum-told4 .given .1) _ ends, λ other. tt)
+    let ends = end-closes (a .task .now) (a .index) (h .facts) (h .case) (h .depth) (at-if2 .if2 .left) (at-case-at .case-at .result)
+    (at-case-at .case-at .ensures) (at-holds .holds .result) (at-holds .holds .ensures) (c .if3 .taken) in
+    (asks-as (a .task .now) (a .index) (a .offsets .now) (a .head .facts) (a .head .case) (a .head .depth) (a .w) _ (at-if2 .before .before .enum-told4 .given .1) _ ends, λ other. refl)
 
 returns-8 : tie.Need-returns-8
 unfolding perform Keeps
 returns-8 c =
     let at-holds = c .before in
-    let at-case-at = at-holds .before .before in
+    let at-case-at = at-holds .before in
     let at-if2 = at-case-at .before in
     let a = at-if2 .before .before .before .before .before .args in
     let h = a .head in
-    let ends = end-closes (a .task .now) (a .index) (h .facts) (h .case) (h .depth) (at-if2 .if2 .left) (at-case-at .case-at .result)
-    (at-case-at .case-at .ensures) (at-holds .holds .result) (at-holds .holds .ensures) (not-false _ (c .if3 .left)) in
-    (asks-as (a .task .now) (a .index) (a .offsets .now) (a .head .facts) (a .head .case) (a .head .depth) (a .w) _ (at-if2 .before .before .enum-told4 .given .1) _ ends, λ other. refl)
+    let ends = end-refused (a .task .now) (a .index) (h .facts) (h .case) (h .depth) (at-if2 .if2 .left) (at-case-at .case-at .result)
+    (at-case-at .case-at .ensures) (at-holds .holds .result) (at-holds .holds .ensures) (c .if3 .left) in
+    (asks-as (a .task .now) (a .index) (a .offsets .now) (a .head .facts) (a .head .case) (a .head .depth) (a .w) _ (at-if2 .before .before .enum-told4 .given .1) _ ends, λ other. tt)
 
 pub ask-spec : {M : Type 1} → statement M
 ask-spec =

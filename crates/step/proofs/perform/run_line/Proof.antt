@@ -31,7 +31,7 @@ ask-requires c κs =
     )
 
 enum-known-asked : tie.Need-enum-known-asked
-enum-known-asked c = search needs
+enum-known-asked c = c .match .keys1
 
 cast-t13 : tie.Need-cast-t13
 cast-t13 c = search needs
@@ -48,7 +48,7 @@ returns c =
     (at-ask .ask .result) (at-ask .ask .ensures .0) _ (at-asked .asked .given .1)
 
 enum-known-asked-2 : tie.Need-enum-known-asked-2
-enum-known-asked-2 c = search needs
+enum-known-asked-2 c = c .match .keys2
 
 sub-frame-at : tie.Need-sub-frame-at
 sub-frame-at c = c .before .before .before .before .before .before .before .before .before .pre .0 .standing .unfinished

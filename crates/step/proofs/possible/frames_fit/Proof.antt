@@ -1,17 +1,19 @@
--- `step::possible::frames_fit` meets its contract: frame after frame is asked.
+-- `step::possible::frames_fit` meets its contract: frame after frame is asked, each by whether it is in use.
 -- Assumes nothing.
 use Prim.Native.Nat.{ℕ, _+_, _-_, _≤_}
-use mathlib.Core.Path.{_≡_, refl, ap, _∙_}
-use mathlib.Core.Bool.{cond}
+use mathlib.Core.Path.{_≡_, refl, sym, ap, _∙_}
+use mathlib.Core.Bool.{true, false, cond}
+use mathlib.Core.Logic.{⊎-elim}
 use lib.Dec.{ltb}
 use lib.ListN.{getD}
 use native.Mathlib.Omega.{arith}
+use borrow.Author.Tests.{lt-ltb, le-ltb}
+use Rattle.records.proofs.Laws.Tests.{cond-yes, cond-no}
 use Rattle.step.specs.Facts.{every}
 use Rattle.step.specs.Position.{origin}
 use Rattle.step.specs.Possible.{inUse, unused, frameFits}
 use Rattle.step.specs.declared.position.Frame.{Frame}
 use Rattle.step.proofs.Laws.Facts.{every-more}
-use borrow.Author.Needs.{needs}
 use Rattle.step.proofs.possible.frames_fit.Statement.{statement}
 use Rattle.step.proofs.possible.frames_fit.Tie as tie
 
@@ -23,35 +25,37 @@ abbrev μ-loop : tie.MeasureT-loop
 
 loop-holds : tie.Need-loop-holds Inv-loop μ-loop
 unfolding every
-loop-holds c = (search needs, refl)
+loop-holds c = (omega arith, refl)
 
 add-frame-at : tie.Need-add-frame-at Inv-loop μ-loop
-add-frame-at c = search needs
+add-frame-at c = record { fits = omega (arith, c .loop-test .taken) }
 
 frame-at-requires : tie.Need-frame-at-requires Inv-loop μ-loop
-frame-at-requires c κs = search needs
-
-frame-fits-requires : tie.Need-frame-fits-requires Inv-loop μ-loop
-frame-fits-requires c κs = search needs
+frame-at-requires c κs = omega (arith, c .loop-test .taken)
 
 add-k : tie.Need-add-k Inv-loop μ-loop
-add-k c = search needs
+add-k c = record { fits = omega (arith, c .before .before .before .loop-test .taken) }
 
 loop-less : tie.Need-loop-less Inv-loop μ-loop
-loop-less c = search needs
+loop-less c = omega (arith, c .before .before .before .loop-test .taken)
 
 loop-again : tie.Need-loop-again Inv-loop μ-loop
-unfolding frameFits
+unfolding frameFits inUse unused
 loop-again c =
-    let at-frame-at = c .before in
-    let at-loop = at-frame-at .before .before .before in
+    let at-frame-at = c .before .before in
+    let at-loop-test = at-frame-at .before in
+    let at-loop = at-loop-test .before in
     let k = at-loop .loop .k in
     let b = at-loop .before .args .bounds in
     let s = at-loop .before .args .position in
-    let back : k + 1 - 1 ≡ k = omega arith in (
-      search needs,
+    let back : k + 1 - 1 ≡ k = omega arith in
+    let f : Frame = at-frame-at .frame-at .result in
+    let fits : c .if1 .fits ≡ cond (ltb k (s .depth)) (inUse b f) (unused f) =
+    ⊎-elim (λ w. w .5 ∙ cond-yes _ true _ _ (sym (lt-ltb k (s .depth) (w .0 .taken))) refl)
+    (λ w. w .3 ∙ cond-no _ false _ _ (sym (le-ltb k (s .depth) (w .0 .left))) refl) (c .if1 .came) in (
+      omega (arith, at-loop-test .loop-test .taken),
       every-more (frameFits b s) k _ _ (at-loop .loop .inv .1)
-          (c .frame-fits .ensures
+          (fits
           ∙ ap (λ (x : Frame). cond (ltb k (s .depth)) (inUse b x) (unused x))
           (at-frame-at .frame-at .ensures ∙ ap (λ (n : ℕ). getD (s .frames) n origin) back)),
     )
@@ -71,7 +75,6 @@ frames-fit-spec =
     loop-holds
     add-frame-at
     frame-at-requires
-    frame-fits-requires
     add-k
     loop-less
     loop-again

@@ -1,6 +1,5 @@
 -- `step::possible::possible` meets its contract: it is the conjunction of its tests.
 -- Assumes nothing.
-use borrow.Author.Needs.{needs}
 use mathlib.Core.Bool.{_&&_}
 use lib.Dec.{leb}
 use Rattle.step.specs.Possible.{possible}
@@ -9,10 +8,10 @@ use Rattle.step.proofs.possible.possible.Statement.{statement}
 use Rattle.step.proofs.possible.possible.Tie as tie
 
 within-requires : tie.Need-within-requires
-within-requires c κs = search needs
+within-requires c κs = tt
 
 frames-fit-requires : tie.Need-frames-fit-requires
-frames-fit-requires c κs = search needs
+frames-fit-requires c κs = tt
 
 returns : tie.Need-returns
 unfolding possible

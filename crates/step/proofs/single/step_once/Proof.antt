@@ -10,17 +10,24 @@ use Rattle.step.proofs.single.step_once.Statement.{statement}
 use Rattle.step.proofs.single.step_once.Tie as tie
 
 possible-requires : tie.Need-possible-requires
-possible-requires c κs = search needs
+possible-requires c κs = tt
 
 returns : tie.Need-returns
 unfolding unchanged
-returns c = step-impossible _ _ _ _ _ _ (c .before .possible .ensures) (not-true _ (c .if1 .taken))
+returns c =
+    let at-possible = c .before in
+    let a = at-possible .before .before .before .args in
+    step-impossible (a .bytes .now) (a .index) (a .offsets .now) (a .program .now) (a .position) (at-possible .possible .result) (at-possible .possible .ensures)
+    (not-true _ (c .if1 .taken))
 
 returns-2 : tie.Need-returns-2
 unfolding unchanged
 returns-2 c =
     let at-if1 = c .before .before in
-    step-finished _ _ _ _ _ _ (at-if1 .before .possible .ensures) (not-false _ (at-if1 .if1 .left)) (c .if2 .taken)
+    let at-possible = at-if1 .before in
+    let a = at-possible .before .before .before .args in
+    step-finished (a .bytes .now) (a .index) (a .offsets .now) (a .program .now) (a .position) (at-possible .possible .result) (at-possible .possible .ensures)
+    (not-false _ (at-if1 .if1 .left)) (c .if2 .taken)
 
 cast-t10 : tie.Need-cast-t10
 cast-t10 c = search needs
@@ -30,7 +37,10 @@ unfolding unchanged
 returns-3 c =
     let at-if2 = c .before .before .before .before in
     let at-if1 = at-if2 .before .before in
-    step-late _ _ _ _ _ _ (at-if1 .before .possible .ensures) (not-false _ (at-if1 .if1 .left)) (at-if2 .if2 .left) (c .before .if3 .taken)
+    let at-possible = at-if1 .before in
+    let a = at-possible .before .before .before .args in
+    step-late (a .bytes .now) (a .index) (a .offsets .now) (a .program .now) (a .position) (at-possible .possible .result) (at-possible .possible .ensures)
+    (not-false _ (at-if1 .if1 .left)) (at-if2 .if2 .left) (c .before .if3 .taken)
 
 run-line-requires : tie.Need-run-line-requires
 run-line-requires c κs =
@@ -55,8 +65,10 @@ returns-4 : tie.Need-returns-4
 returns-4 c =
     let at-if2 = c .before .before .before .before in
     let at-if1 = at-if2 .before .before in
-    c .run-line .ensures
-    ∙ step-lines _ _ _ _ _ _ (at-if1 .before .possible .ensures) (not-false _ (at-if1 .if1 .left)) (at-if2 .if2 .left) (c .before .if3 .left)
+    let at-possible = at-if1 .before in
+    let a = at-possible .before .before .before .args in
+    step-lines (a .bytes .now) (a .index) (a .offsets .now) (a .program .now) (a .position) (at-possible .possible .result) (at-possible .possible .ensures)
+    (not-false _ (at-if1 .if1 .left)) (at-if2 .if2 .left) (c .before .if3 .left) (c .run-line .result) (c .run-line .ensures)
 
 pub step-once-spec : {M : Type 1} → statement M
 step-once-spec =
