@@ -47,7 +47,7 @@ ghost use Rattle.step.specs.Moved.{performedAs};
 ghost use Rattle.step.specs.declared.head.Head.{Head};
 ghost use Rattle.step.specs.declared.position.Frame.{Frame};
 ghost use Rattle.step.specs.declared.position.Position.{Position};
-ghost use Rattle.checker.specs.Check.{lineFits, written, onMove, stepTurn, closeTurn, turnOf, follow, check};
+ghost use Rattle.checker.specs.Check.{lineFits, onMove, stepTurn, closeTurn, turnOf, follow, check};
 ghost use Rattle.checker.specs.Outcome.{ReadAs, StepReady, ReadyAt, HasRoom, state, shapeNo, lineTurn, readTurn, followedBy};
 ghost use Rattle.checker.specs.Plan.{instructionOf};
 ghost use Rattle.checker.specs.Trace.{withBytes};
@@ -85,17 +85,6 @@ fn line_fits(held: Triple, step: Step, w: Triple) -> bool
     match step {
         Step::Write(_) => held.op == 0,
         Step::Repeat(_) => (held.op == w.op) & (held.p == w.p) & (held.q == w.q),
-    }
-}
-
-// Fills a step's line with its instruction's three bytes, if the step writes it.
-pub(crate) fn write_line(program: &mut [u8; 768], at: usize, step: Step, w: Triple)
-    requires { ⌜ (w ≡ encode (instructionOf step)) × (at + 3 ≤ length (now program)) ⌝ }
-    ensures { λ _. ⌜ now (program .exit) ≡ written (now (program .entry)) at step ⌝ }
-{
-    match step {
-        Step::Write(_) => put_triple(program, at, w),
-        Step::Repeat(_) => {}
     }
 }
 
@@ -201,10 +190,12 @@ fn take_step(
         × HasRoom index head step r × (length (now (program .exit)) ≡ 768) ⌝ }
 {
     let offset = line_offset(index.bounds, head.procedure, head.line);
-    if !line_fits(triple_at(program, offset), step, w) {
+    let held = triple_at(program, offset);
+    if !line_fits(held, step, w) {
         return Asked::No(LINE);
     }
-    write_line(program, offset, step, w);
+    // A repeat's line has these three bytes already.
+    put_triple(program, offset, w);
     ask(task, index, offsets, head, instruction_of(step))
 }
 
@@ -248,8 +239,8 @@ fn follow(
                     Asked::Facts(facts) => {
                         let depth = head.depth as usize;
                         callers[depth] = head.caller();
-                        let below = callers[depth - 1];
-                        head = head.moved(task, index, below, facts, instruction_of(step));
+                        let instruction = instruction_of(step);
+                        head = head.moved(task, index, callers[depth - 1], facts, instruction);
                         at = next;
                     }
                 }

@@ -1,12 +1,13 @@
-// The writer's trace, one byte for each step of a run: 32 times the top frame's procedure and its line. From it and the program come the plan's
-// records.
+// The writer's trace, one byte for each step of a run: its line's number plus 32 times that of its procedure. From it and the program come the
+// plan's records.
 use crate::check::put;
-use crate::check::write_line;
+use crate::plan::Step;
 use crate::plan::step_of;
 use crate::questions::PLAN_BUFFER;
 use task::bounds::Bounds;
 use task::instruction::Line;
 use task::instruction::Proc;
+use task::instruction::put_triple;
 use task::instruction::spelled;
 use task::instruction::triple_at;
 use task::program::line_offset;
@@ -31,10 +32,16 @@ fn next_record(bounds: Bounds, program: &[u8], lines: &mut [u8; 768], number: u8
     let line = number % 32;
     let offset = line_offset(bounds, Proc(procedure), Line(line));
     let w = triple_at(program, offset);
-    // 16 for a line that `lines` does not hold, else 17.
-    let kind = 17 - (lines[offset] == 0) as u8;
-    write_line(lines, offset, step_of(kind as u16, spelled(w)), w);
-    [5, 0, kind, 0, procedure, line, w.op, w.p, w.q]
+    // Kind 16 for a line that `lines` does not hold, else 17.
+    let kind = 17 - (lines[offset] == 0) as u16;
+    let step = step_of(kind, spelled(w));
+    match step {
+        Step::Write(_) => {
+            put_triple(lines, offset, w);
+            [5, 0, 16, 0, procedure, line, w.op, w.p, w.q]
+        }
+        Step::Repeat(_) => [5, 0, 17, 0, procedure, line, w.op, w.p, w.q],
+    }
 }
 
 // What follows a run that ended all cases, given its trace: question 29, and the plan. The records of its steps and the closing one fill the buffer's

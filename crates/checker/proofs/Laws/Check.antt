@@ -23,16 +23,15 @@ use Rattle.task.specs.declared.bounds.Bounds.{Bounds}
 use Rattle.task.specs.declared.index.Index.{Index}
 use Rattle.task.specs.declared.instruction.Decoded.the-variants.{Is}
 use Rattle.task.specs.declared.instruction.Instruction.{Instruction}
-use Rattle.task.specs.declared.instruction.Instruction.the-variants.{Act}
 use Rattle.task.specs.declared.instruction.Line.{Line}
 use Rattle.task.specs.declared.instruction.Proc.{Proc}
 use Rattle.task.specs.declared.instruction.Triple.{Triple}
-use Rattle.task.proofs.Laws.Instruction.{Allowed, allows, keep-is, not-instruction, instruction-is, decode-spelled, decoded-for, decoded-there, put-length}
+use Rattle.task.proofs.Laws.Instruction.{keep-is, not-instruction, instruction-is, decode-spelled, decoded-for, decoded-there, put-length}
+use Rattle.task.proofs.Laws.Triple.{same-triple, put-same}
 use Rattle.step.specs.declared.head.Head.{Head}
 use Rattle.step.specs.Perform.{perform}
 use Rattle.step.specs.Position.{sameFrame, top}
 use Rattle.step.specs.Questions.{STEPS}
-use Rattle.step.specs.Ready.{Known}
 use Rattle.step.specs.Head.{Stands, topOf}
 use Rattle.step.specs.Moved.{performedAs}
 use Rattle.step.specs.declared.perform.Asked.{Asked}
@@ -42,9 +41,9 @@ use Rattle.step.specs.declared.position.Position.{Position}
 use Rattle.step.proofs.Laws.Moved.{asked-room}
 use Rattle.checker.specs.Answer.{Result, refused, accepted}
 use Rattle.checker.specs.Check.{lineFits, written, onMove, onStep, onDecoded, stepTurn, closeTurn, onRecord, turnOf}
-use Rattle.checker.specs.Outcome.{Askable, StepReady, HasRoom, state, shapeNo, lineTurn}
+use Rattle.checker.specs.Outcome.{StepReady, HasRoom, state, shapeNo, lineTurn}
 use Rattle.checker.specs.Plan.{instructionOf, stepOf, isKind, lengthFits, frameAt}
-use Rattle.checker.specs.Questions.{PLAN-RECORD, PLAN-KIND, PLAN-LENGTH, ALLOWED, OPEN, TOP, LINE, FINISHED, PLAN-CLOSED}
+use Rattle.checker.specs.Questions.{PLAN-RECORD, ALLOWED, OPEN, TOP, LINE, FINISHED, PLAN-CLOSED}
 use Rattle.checker.specs.declared.plan.Step.{Step}
 use Rattle.checker.specs.declared.plan.Step.the-variants.{Write, Repeat}
 
@@ -111,15 +110,21 @@ module _ (b : Bounds) (actions : ℕ) (j : Proc) (l : Line) (t : Triple) (m : Bo
   for-is : (w : Instruction) → spelled t ≡ Is w → decodeFor b actions j l t ≡ Is w
   for-is w e = some .1 ∙ sym (for-spelled (some .0) (some .1)) ∙ e
 
--- question 18 of a repeat, and the line of a step, by the instruction's three bytes `w`
-module _ (step : Step) (v : Instruction) (w : Triple) (k : w ≡ encode (instructionOf step)) where
-  pub line-repeats : step ≡ Repeat v → (held : Triple) → sameTriple held w ≡ lineFits held step
+-- a step on its line, by the instruction's three bytes `w`
+module _ (step : Step) (w : Triple) (k : w ≡ encode (instructionOf step)) where
+  -- question 18 of a repeat
+  pub line-repeats : (v : Instruction) → step ≡ Repeat v → (held : Triple) → sameTriple held w ≡ lineFits held step
   unfolding lineFits instructionOf
-  line-repeats e held = rw e (ap (sameTriple held) (rw e at k))
+  line-repeats v e held = rw e (ap (sameTriple held) (rw e at k))
 
-  pub line-written : step ≡ Write v → (program : List ℕ) (at : ℕ) → withTriple program at w ≡ written program at step
-  unfolding written instructionOf
-  line-written e program at = rw e (ap (withTriple program at) (rw e at k))
+  -- a step that fits its line leaves these three bytes there: a repeat's are there already
+  pub line-filled : (program : List ℕ) (at : ℕ) → lineFits (tripleAt program at) step ≡ true → withTriple program at w ≡ written program at step
+  unfolding written instructionOf lineFits
+  line-filled program at h = fills step k h
+    where
+      fills : (x : Step) → w ≡ encode (instructionOf x) → lineFits (tripleAt program at) x ≡ true → withTriple program at w ≡ written program at x
+      fills (Write v) e y = ap (withTriple program at) e
+      fills (Repeat v) e y = rw (e, ← same-triple (tripleAt program at) (encode v) y) (put-same program at)
 
 -- a step writes in place
 pub written-length : (program : List ℕ) (at : ℕ) (step : Step) → length (written program at step) ≡ length program
@@ -159,12 +164,6 @@ module _ (i : Index) (plan : List ℕ) (at : ℕ) (p : Position) (program : List
     pub closes : next ≡ length plan → stop (accepted (p .steps) program) ≡ closeTurn i plan (state at p program) next
     unfolding closeTurn
     closes n = ask-yes _ _ _ (eq-eqb next (length plan) n) ∙ ask-yes _ _ _ (eq-eqb (p .case) (i .cases) h)
-
--- an instruction that is allowed names one of the task's actions
-pub askable-known : (i : Index) (h : Head) (w : Instruction) → Askable i h w → Known i w
-askable-known i h w a action e =
-    let there : Allowed (i .bounds) (i .actions) (h .line) (Act action) = rw e at (allows (i .bounds) (i .actions) (h .line) w (a .allowed)) in
-    there .1
 
 -- the answer `r` to questions 19 to 22, of any position with these facts, this case and this depth: a call has room for its frame
 module _ (bytes : List ℕ) (i : Index) (offsets : List ℕ) (h : Head) (step : Step) (r : Asked)

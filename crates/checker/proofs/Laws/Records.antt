@@ -12,7 +12,7 @@ use lib.Seq.{length-take-le, take-length, take-all, take-append-seam, drop-appen
 use mir.Val.{boolByte}
 use borrow.Author.Tests.{le-leb, lt-leb}
 use Rattle.records.specs.Numbers.{byteAt}
-use Rattle.task.specs.Instruction.{spelled, encode, tripleAt}
+use Rattle.task.specs.Instruction.{spelled, encode, tripleAt, withTriple}
 use Rattle.task.specs.Program.{lineOffset, spelledOn}
 use Rattle.task.specs.declared.bounds.Bounds.{Bounds}
 use Rattle.task.specs.declared.instruction.Decoded.the-variants.{Is}
@@ -79,16 +79,10 @@ pub kind-small : (b : Bool) → boolByte b ≤ 17
 kind-small true = omega arith
 kind-small false = omega arith
 
-module _ (w : Instruction) where
-  kind-step : (b : Bool) → stepOf (17 - boolByte b) w ≡ cond b (Write w) (Repeat w)
-  unfolding stepOf
-  kind-step true = refl
-  kind-step false = refl
-
-  kind-kind : (b : Bool) → kindOf (cond b (Write w) (Repeat w)) ≡ 17 - boolByte b
-  unfolding kindOf
-  kind-kind true = refl
-  kind-kind false = refl
+kind-step : (w : Instruction) (b : Bool) → stepOf (17 - boolByte b) w ≡ cond b (Write w) (Repeat w)
+unfolding stepOf
+kind-step w true = refl
+kind-step w false = refl
 
 -- one step at a frame: `t` are its line's bytes, `w` is what they spell, and `kind` is the kind at its line
 module _ (b : Bounds) (program lines : List ℕ) (f : Frame) (offset : ℕ) (eo : offset ≡ lineOffset b (f .procedure) (f .line))
@@ -98,18 +92,27 @@ module _ (b : Bounds) (program lines : List ℕ) (f : Frame) (offset : ℕ) (eo 
   unfolding stepAt spelledOn stepOn tripleAt
   is-step = es ∙ rw (ek, kind-step w (eqb (byteAt lines offset) 0), ← eo, ← et, ew) refl
 
-  pub step-bytes : t ≡ encode (instructionOf step)
+  step-bytes : t ≡ encode (instructionOf step)
   step-bytes = sym (encode-spelled t w ew) ∙ ap encode (sym (ap instructionOf es ∙ step-instruction kind w))
 
-  pub step-lines : (after : List ℕ) → after ≡ written lines offset step → after ≡ linesWith b program lines f
-  unfolding linesWith
-  step-lines after e = e ∙ rw (eo, is-step) refl
+  after-step : (number : ℕ) → number ≡ kindOf step → (after : List ℕ) → after ≡ written lines offset step
+      → (after ≡ linesWith b program lines f)
+      × ((5 ∷ 0 ∷ number ∷ 0 ∷ f .procedure .0 ∷ f .line .0 ∷ t .op ∷ t .p ∷ t .q ∷ []) ≡ recordOn b program lines f)
+  unfolding linesWith recordOn recordOf
+  after-step number en after e = (e ∙ rw (eo, is-step) refl, rw (← is-step, ← step-bytes, en) refl)
 
-  pub step-record : (5 ∷ 0 ∷ kind ∷ 0 ∷ f .procedure .0 ∷ f .line .0 ∷ t .op ∷ t .p ∷ t .q ∷ []) ≡ recordOn b program lines f
-  unfolding recordOn recordOf
-  step-record =
-      let same : kindOf step ≡ kind = rw (es, ek, kind-step w (eqb (byteAt lines offset) 0)) (kind-kind w (eqb (byteAt lines offset) 0)) in
-      rw (← is-step, ← step-bytes, same) refl
+  -- a write, and a repeat
+  pub line-written : (v : Instruction) → step ≡ Write v → (after : List ℕ) → after ≡ withTriple lines offset t
+      → (after ≡ linesWith b program lines f)
+      × ((5 ∷ 0 ∷ 16 ∷ 0 ∷ f .procedure .0 ∷ f .line .0 ∷ t .op ∷ t .p ∷ t .q ∷ []) ≡ recordOn b program lines f)
+  unfolding written instructionOf kindOf
+  line-written v h after e = after-step 16 (rw h refl) after (e ∙ rw (step-bytes, h) refl)
+
+  pub line-repeated : (v : Instruction) → step ≡ Repeat v
+      → (lines ≡ linesWith b program lines f)
+      × ((5 ∷ 0 ∷ 17 ∷ 0 ∷ f .procedure .0 ∷ f .line .0 ∷ t .op ∷ t .p ∷ t .q ∷ []) ≡ recordOn b program lines f)
+  unfolding written kindOf
+  line-repeated v h = after-step 17 (rw h refl) lines (rw h refl)
 
 module _ (b : Bounds) (program presets trace plan : List ℕ) where
   -- what holds behind `k` steps, of `lines` and the plan's bytes

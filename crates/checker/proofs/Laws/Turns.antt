@@ -2,7 +2,7 @@
 -- closing record at the end of the plan. So a turn that goes on goes to an offset behind its own, and the loop's law applies: what the plan
 -- comes to from here on is one turn, and then what it comes to from there on. And it keeps the position possible.
 -- Assumes nothing.
-use Prim.Native.Nat.{ℕ, _+_, _-_, _≤_, _<_}
+use Prim.Native.Nat.{ℕ, _+_, _≤_, _<_}
 use mathlib.Core.Path.{_≡_, refl, sym, ap, _∙_}
 use mathlib.Core.Bool.{Bool, true, false}
 use mathlib.Core.List.{List}
@@ -26,9 +26,8 @@ use Rattle.task.specs.declared.instruction.Decoded.the-variants.{Is, Nothing}
 use Rattle.task.specs.declared.instruction.Instruction.{Instruction}
 use Rattle.task.proofs.Laws.Instruction.{decoded-for}
 use Rattle.task.proofs.Laws.Passed.{Passed, passed}
-use Rattle.step.specs.Moved.{movedBy}
 use Rattle.step.specs.Perform.{perform}
-use Rattle.step.specs.Position.{sameFrame, top, counted}
+use Rattle.step.specs.Position.{sameFrame, top}
 use Rattle.step.specs.Possible.{possible}
 use Rattle.step.specs.declared.position.Frame.{Frame}
 use Rattle.step.specs.declared.position.Position.{Position}

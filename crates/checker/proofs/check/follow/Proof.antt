@@ -128,22 +128,22 @@ mul-callers c = search needs
 array-set-from-callers : tie.Need-array-set-from-callers Inv-loop μ-loop
 array-set-from-callers c = omega (arith, c .before .before .before .before .before .before .before .before .before .before .before .loop .inv .deep)
 
-sub-below : tie.Need-sub-below Inv-loop μ-loop
-sub-below c =
-    let at-read = c .before .before .before .before .before .before .before .before in
+instruction-of-requires : tie.Need-instruction-of-requires Inv-loop μ-loop
+instruction-of-requires c κs = search needs
+
+sub-moved : tie.Need-sub-moved Inv-loop μ-loop
+sub-moved c =
+    let at-read = c .before .before .before .before .before .before .before .before .before in
     let at-read-record = at-read .before .before in
     let l = at-read-record .before .loop in
     let a = at-read-record .before .before .before .before .before .before .args in
     l .inv .above (ready-is (a .index) (l .head) (at-read-record .read-record .result) _ _ _ (at-read .read3 .given .1) (at-read-record .read-record .ensures .1) .askable .case)
 
-mul-below : tie.Need-mul-below Inv-loop μ-loop
-mul-below c = search needs
+mul-moved : tie.Need-mul-moved Inv-loop μ-loop
+mul-moved c = search needs
 
-array-copy-out-below : tie.Need-array-copy-out-below Inv-loop μ-loop
-array-copy-out-below c = omega (arith, c .before .before .before .before .before .before .before .before .before .before .before .loop .inv .deep)
-
-instruction-of-requires : tie.Need-instruction-of-requires Inv-loop μ-loop
-instruction-of-requires c κs = search needs
+array-copy-out-moved : tie.Need-array-copy-out-moved Inv-loop μ-loop
+array-copy-out-moved c = omega (arith, c .before .before .before .before .before .before .before .before .before .before .before .before .loop .inv .deep)
 
 moved-requires : tie.Need-moved-requires Inv-loop μ-loop
 moved-requires c κs =
@@ -152,7 +152,7 @@ moved-requires c κs =
     let l = at-read-record .before .loop in
     let a = at-read-record .before .before .before .before .before .before .args in
     let ready = ready-is (a .index) (l .head) (at-read-record .read-record .result) _ _ _ (at-read .read3 .given .1) (at-read-record .read-record .ensures .1) in
-    (rw (c .instruction-of .ensures) (follow-fits (a .task .now) (a .index) (a .offsets .now) (a .plan .now) _ (l .at) (l .program) (l .head) (l .callers) (l .inv) _ _ ready), l .inv .passed .cased)
+    (rw (c .before .instruction-of .ensures) (follow-fits (a .task .now) (a .index) (a .offsets .now) (a .plan .now) _ (l .at) (l .program) (l .head) (l .callers) (l .inv) _ _ ready), l .inv .passed .cased)
 
 loop-less : tie.Need-loop-less Inv-loop μ-loop
 loop-less c =
@@ -169,8 +169,8 @@ loop-less c =
 loop-again : tie.Need-loop-again Inv-loop μ-loop
 unfolding origin
 loop-again c =
-    let at-instruction-of = c .before in
-    let at-caller = at-instruction-of .before .before in
+    let at-instruction-of = c .before .before in
+    let at-caller = at-instruction-of .before in
     let at-asked = at-caller .before .before .before in
     let at-take-step = at-asked .before .before in
     let at-read = at-take-step .before .before .before in
@@ -207,10 +207,10 @@ follow-spec =
     caller-requires-2
     mul-callers
     array-set-from-callers
-    sub-below
-    mul-below
-    array-copy-out-below
     instruction-of-requires
+    sub-moved
+    mul-moved
+    array-copy-out-moved
     moved-requires
     loop-less
     loop-again)

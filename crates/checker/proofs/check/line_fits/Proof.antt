@@ -21,7 +21,7 @@ returns-2 : tie.Need-returns-2
 unfolding sameTriple
 returns-2 c =
     let at-enum-told2 = c .before .before .before .before .before .before in
-    line-repeats _ _ _ (at-enum-told2 .before .before .pre) (at-enum-told2 .enum-told2 .given .1) _
+    line-repeats _ _ (at-enum-told2 .before .before .pre) _ (at-enum-told2 .enum-told2 .given .1) _
 
 pub line-fits-spec : {M : Type 1} → statement M
 line-fits-spec = tie.close (tie.spec enum-told enum-told-2 returns returns-2)

@@ -5,7 +5,7 @@ use native.Mathlib.Omega.{arith}
 use lib.Dec.{eqb}
 use Rattle.records.specs.Numbers.{byteAt}
 use Rattle.checker.specs.Trace.{frameOf}
-use Rattle.checker.proofs.Laws.Records.{kind-small, step-bytes, step-lines, step-record}
+use Rattle.checker.proofs.Laws.Records.{kind-small, line-written, line-repeated}
 use Rattle.checker.proofs.trace.next_record.Statement.{statement}
 use Rattle.checker.proofs.trace.next_record.Tie as tie
 
@@ -31,13 +31,10 @@ sub-kind c =
     let at-line-offset = c .before .before in
     kind-small (eqb (byteAt (at-line-offset .before .before .args .lines .now) (at-line-offset .line-offset .result)) 0)
 
-cast-step-of : tie.Need-cast-step-of
-cast-step-of c = omega arith
-
 spelled-requires : tie.Need-spelled-requires
 unfolding frameOf
 spelled-requires c κs =
-    let at-triple-at = c .before .before in
+    let at-triple-at = c .before in
     let at-line-offset = at-triple-at .before in
     let at-start = at-line-offset .before .before in
     rw (at-triple-at .triple-at .ensures, at-line-offset .line-offset .ensures) (at-start .pre .0 .spells)
@@ -45,32 +42,42 @@ spelled-requires c κs =
 step-of-requires : tie.Need-step-of-requires
 step-of-requires c κs = tt
 
-write-line-requires : tie.Need-write-line-requires
+enum-told : tie.Need-enum-told
+enum-told c = c .match .keys1
+
+put-triple-requires : tie.Need-put-triple-requires
 unfolding frameOf
-write-line-requires c κs =
-    let at-spelled = c .before in
-    let at-triple-at = at-spelled .before .before .before in
-    let at-line-offset = at-triple-at .before in
+put-triple-requires c κs =
+    let at-line-offset = c .before .before .before .before .before .before .before in
     let at-start = at-line-offset .before .before in
-    let a = at-start .args in (
-      step-bytes (a .bounds) (a .program .now) (a .lines .now) (frameOf (a .number)) _ (at-line-offset .line-offset .ensures) _
-          (at-triple-at .triple-at .ensures) _ refl _ (at-spelled .spelled .ensures) _ (c .step-of .ensures),
-      omega (arith, at-line-offset .line-offset .ensures, at-start .pre .0 .there, at-start .pre .1, at-start .pre .2),
-    )
+    omega (arith, at-line-offset .line-offset .ensures, at-start .pre .0 .there, at-start .pre .1, at-start .pre .2)
+
+enum-told-2 : tie.Need-enum-told-2
+enum-told-2 c = c .match .keys2
 
 returns : tie.Need-returns
 unfolding frameOf
 returns c =
-    let at-step-of = c .before in
+    let at-enum-told = c .before .before in
+    let at-step-of = at-enum-told .before .before in
     let at-spelled = at-step-of .before in
-    let at-triple-at = at-spelled .before .before .before in
+    let at-triple-at = at-spelled .before .before in
     let at-line-offset = at-triple-at .before in
-    let a = at-line-offset .before .before .args in (
-      step-lines (a .bounds) (a .program .now) (a .lines .now) (frameOf (a .number)) _ (at-line-offset .line-offset .ensures) _
-          (at-triple-at .triple-at .ensures) _ refl _ (at-spelled .spelled .ensures) _ (at-step-of .step-of .ensures) _ (c .write-line .ensures),
-      step-record (a .bounds) (a .program .now) (a .lines .now) (frameOf (a .number)) _ (at-line-offset .line-offset .ensures) _
-          (at-triple-at .triple-at .ensures) _ refl _ (at-spelled .spelled .ensures) _ (at-step-of .step-of .ensures),
-    )
+    let a = at-line-offset .before .before .args in
+    line-written (a .bounds) (a .program .now) (a .lines .now) (frameOf (a .number)) _ (at-line-offset .line-offset .ensures) _
+    (at-triple-at .triple-at .ensures) _ refl _ (at-spelled .spelled .ensures) _ (at-step-of .step-of .ensures) _ (at-enum-told .enum-told .given .1) _
+    (c .put-triple .ensures)
+
+returns-2 : tie.Need-returns-2
+unfolding frameOf
+returns-2 c =
+    let at-step-of = c .before .before in
+    let at-spelled = at-step-of .before in
+    let at-triple-at = at-spelled .before .before in
+    let at-line-offset = at-triple-at .before in
+    let a = at-line-offset .before .before .args in
+    line-repeated (a .bounds) (a .program .now) (a .lines .now) (frameOf (a .number)) _ (at-line-offset .line-offset .ensures) _
+    (at-triple-at .triple-at .ensures) _ refl _ (at-spelled .spelled .ensures) _ (at-step-of .step-of .ensures) _ (c .enum-told2 .given .1)
 
 pub next-record-spec : {M : Type 1} → statement M
 next-record-spec =
@@ -81,8 +88,10 @@ next-record-spec =
     element-copy-out-kind
     cast-kind
     sub-kind
-    cast-step-of
     spelled-requires
     step-of-requires
-    write-line-requires
-    returns)
+    enum-told
+    put-triple-requires
+    enum-told-2
+    returns
+    returns-2)
