@@ -84,10 +84,10 @@ pub fn ask(task: &[u8], index: Index, offsets: &[usize; 64], head: Head, w: Inst
                 return Asked::Facts(head.facts);
             }
             let last = case_at(task, index.first, head.case);
-            if holds(head.facts, last.goal.positive, last.goal.negative) {
-                return Asked::Facts(head.facts);
+            if !holds(head.facts, last.goal.positive, last.goal.negative) {
+                return Asked::No(GOAL);
             }
-            return Asked::No(GOAL);
+            return Asked::Facts(head.facts);
         }
     }
 }

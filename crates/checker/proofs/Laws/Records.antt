@@ -95,24 +95,24 @@ module _ (b : Bounds) (program lines : List ℕ) (f : Frame) (offset : ℕ) (eo 
   step-bytes : t ≡ encode (instructionOf step)
   step-bytes = sym (encode-spelled t w ew) ∙ ap encode (sym (ap instructionOf es ∙ step-instruction kind w))
 
-  after-step : (number : ℕ) → number ≡ kindOf step → (after : List ℕ) → after ≡ written lines offset step
-      → (after ≡ linesWith b program lines f)
+  -- these are the lines after it, and its record is one of this kind
+  abbrev Leaves : ℕ → List ℕ → Type 0
+  Leaves number after =
+      (after ≡ linesWith b program lines f)
       × ((5 ∷ 0 ∷ number ∷ 0 ∷ f .procedure .0 ∷ f .line .0 ∷ t .op ∷ t .p ∷ t .q ∷ []) ≡ recordOn b program lines f)
+
+  leaves : (number : ℕ) → number ≡ kindOf step → (after : List ℕ) → after ≡ written lines offset step → Leaves number after
   unfolding linesWith recordOn recordOf
-  after-step number en after e = (e ∙ rw (eo, is-step) refl, rw (← is-step, ← step-bytes, en) refl)
+  leaves number en after e = (e ∙ rw (eo, is-step) refl, rw (← is-step, ← step-bytes, en) refl)
 
   -- a write, and a repeat
-  pub line-written : (v : Instruction) → step ≡ Write v → (after : List ℕ) → after ≡ withTriple lines offset t
-      → (after ≡ linesWith b program lines f)
-      × ((5 ∷ 0 ∷ 16 ∷ 0 ∷ f .procedure .0 ∷ f .line .0 ∷ t .op ∷ t .p ∷ t .q ∷ []) ≡ recordOn b program lines f)
+  pub line-written : (v : Instruction) → step ≡ Write v → (after : List ℕ) → after ≡ withTriple lines offset t → Leaves 16 after
   unfolding written instructionOf kindOf
-  line-written v h after e = after-step 16 (rw h refl) after (e ∙ rw (step-bytes, h) refl)
+  line-written v h after e = leaves 16 (rw h refl) after (e ∙ rw (step-bytes, h) refl)
 
-  pub line-repeated : (v : Instruction) → step ≡ Repeat v
-      → (lines ≡ linesWith b program lines f)
-      × ((5 ∷ 0 ∷ 17 ∷ 0 ∷ f .procedure .0 ∷ f .line .0 ∷ t .op ∷ t .p ∷ t .q ∷ []) ≡ recordOn b program lines f)
+  pub line-repeated : (v : Instruction) → step ≡ Repeat v → Leaves 17 lines
   unfolding written kindOf
-  line-repeated v h = after-step 17 (rw h refl) lines (rw h refl)
+  line-repeated v h = leaves 17 (rw h refl) lines (rw h refl)
 
 module _ (b : Bounds) (program presets trace plan : List ℕ) where
   -- what holds behind `k` steps, of `lines` and the plan's bytes

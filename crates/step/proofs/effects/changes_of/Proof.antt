@@ -40,13 +40,12 @@ loop-again c =
     let at-holds = c .before .before .before in
     let at-effect-at = at-holds .before in
     let at-loop-test = at-effect-at .before in
-    let loop = at-loop-test .before .loop in
-    let a = at-loop-test .before .before .before .args in
+    let walked = at-loop-test .before .loop .inv in
     let less = at-loop-test .loop-test .taken in
-    let x = at-effect-at .effect-at in
+    let effect = at-effect-at .effect-at .ensures in
     let fires = sym (c .before .before .if1 .taken) ∙ at-holds .holds .ensures in (
-      walk-on (a .task .now) (a .at) (a .state) (a .effects) (λ (y : Effect). y .raised) (loop .e) (loop .raised) (loop .inv .0) less (x .result) (x .ensures) true fires (or-lt 64 (loop .raised) (x .result .raised) (loop .inv .0 .small) (c .before .struct-known .given .1 .0 .fits)),
-      walk-on (a .task .now) (a .at) (a .state) (a .effects) (λ (y : Effect). y .lowered) (loop .e) (loop .lowered) (loop .inv .1) less (x .result) (x .ensures) true fires (or-lt 64 (loop .lowered) (x .result .lowered) (loop .inv .1 .small) (c .struct-known2 .given .1 .1 .0 .fits)),
+      walk-on _ _ _ _ _ _ _ (walked .0) less _ effect true fires (or-lt 64 _ _ (walked .0 .small) (c .before .struct-known .given .1 .0 .fits)),
+      walk-on _ _ _ _ _ _ _ (walked .1) less _ effect true fires (or-lt 64 _ _ (walked .1 .small) (c .struct-known2 .given .1 .1 .0 .fits)),
     )
 
 loop-less-2 : tie.Need-loop-less-2 Inv-loop μ-loop
@@ -57,13 +56,12 @@ loop-again-2 c =
     let at-holds = c .before in
     let at-effect-at = at-holds .before in
     let at-loop-test = at-effect-at .before in
-    let loop = at-loop-test .before .loop in
-    let a = at-loop-test .before .before .before .args in
+    let walked = at-loop-test .before .loop .inv in
     let less = at-loop-test .loop-test .taken in
-    let x = at-effect-at .effect-at in
+    let effect = at-effect-at .effect-at .ensures in
     let fires = sym (c .if1 .left) ∙ at-holds .holds .ensures in (
-      walk-on (a .task .now) (a .at) (a .state) (a .effects) (λ (y : Effect). y .raised) (loop .e) (loop .raised) (loop .inv .0) less (x .result) (x .ensures) false fires (loop .inv .0 .small),
-      walk-on (a .task .now) (a .at) (a .state) (a .effects) (λ (y : Effect). y .lowered) (loop .e) (loop .lowered) (loop .inv .1) less (x .result) (x .ensures) false fires (loop .inv .1 .small),
+      walk-on _ _ _ _ _ _ _ (walked .0) less _ effect false fires (walked .0 .small),
+      walk-on _ _ _ _ _ _ _ (walked .1) less _ effect false fires (walked .1 .small),
     )
 
 returns : tie.Need-returns Inv-loop μ-loop

@@ -2,6 +2,7 @@
 -- Assumes nothing.
 use mathlib.Core.Path.{refl}
 use native.Mathlib.Omega.{arith}
+use borrow.Author.Tests.{not-true, not-false}
 use Rattle.step.specs.Moved.{Keeps, performedAs, movedBy}
 use Rattle.step.specs.Perform.{perform, goto}
 use Rattle.step.specs.Questions.{EMPTY}
@@ -96,9 +97,9 @@ returns-7 c =
     let at-if2 = at-case-at .before in
     let a = at-if2 .before .before .before .before .before .args in
     let h = a .head in
-    let ends = end-closes (a .task .now) (a .index) (h .facts) (h .case) (h .depth) (at-if2 .if2 .left) (at-case-at .case-at .result)
-    (at-case-at .case-at .ensures) (at-holds .holds .result) (at-holds .holds .ensures) (c .if3 .taken) in
-    (asks-as (a .task .now) (a .index) (a .offsets .now) (a .head .facts) (a .head .case) (a .head .depth) (a .w) _ (at-if2 .before .before .enum-told4 .given .1) _ ends, λ other. refl)
+    let ends = end-refused (a .task .now) (a .index) (h .facts) (h .case) (h .depth) (at-if2 .if2 .left) (at-case-at .case-at .result)
+    (at-case-at .case-at .ensures) (at-holds .holds .result) (at-holds .holds .ensures) (not-true _ (c .if3 .taken)) in
+    (asks-as (a .task .now) (a .index) (a .offsets .now) (a .head .facts) (a .head .case) (a .head .depth) (a .w) _ (at-if2 .before .before .enum-told4 .given .1) _ ends, λ other. tt)
 
 returns-8 : tie.Need-returns-8
 unfolding perform Keeps
@@ -108,9 +109,9 @@ returns-8 c =
     let at-if2 = at-case-at .before in
     let a = at-if2 .before .before .before .before .before .args in
     let h = a .head in
-    let ends = end-refused (a .task .now) (a .index) (h .facts) (h .case) (h .depth) (at-if2 .if2 .left) (at-case-at .case-at .result)
-    (at-case-at .case-at .ensures) (at-holds .holds .result) (at-holds .holds .ensures) (c .if3 .left) in
-    (asks-as (a .task .now) (a .index) (a .offsets .now) (a .head .facts) (a .head .case) (a .head .depth) (a .w) _ (at-if2 .before .before .enum-told4 .given .1) _ ends, λ other. tt)
+    let ends = end-closes (a .task .now) (a .index) (h .facts) (h .case) (h .depth) (at-if2 .if2 .left) (at-case-at .case-at .result)
+    (at-case-at .case-at .ensures) (at-holds .holds .result) (at-holds .holds .ensures) (not-false _ (c .if3 .left)) in
+    (asks-as (a .task .now) (a .index) (a .offsets .now) (a .head .facts) (a .head .case) (a .head .depth) (a .w) _ (at-if2 .before .before .enum-told4 .given .1) _ ends, λ other. refl)
 
 pub ask-spec : {M : Type 1} → statement M
 ask-spec =
