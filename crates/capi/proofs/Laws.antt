@@ -4,4 +4,5 @@ pub mod Plan
 pub mod Program
 pub mod Result
 pub mod Step
+pub mod Steps
 pub mod Write

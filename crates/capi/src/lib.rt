@@ -1,8 +1,11 @@
-// The entries for C and Rust. Each returns its answer as one number: number * 2^32 + value.
+// The entries for C and Rust. Each returns its answer as one number: `pp_steps` number * 2^48 + steps made * 2^32 + place, with the place 0 where the
+// number is 0, and the others number * 2^32 + value.
 use checker::check::check_plan;
 use checker::write::write_plan;
 use step::position::Position;
 use step::single::step_in_place;
+use steps::many::StepsAnswer;
+use steps::many::many_steps_in_place;
 use task::reading::read_task;
 use task::verdict::Verdict;
 ghost use mathlib.Core.Path.{_≡_};
@@ -10,9 +13,10 @@ ghost use Prim.Native.Nat.{_^_, _<_};
 ghost use Rattle.task.specs.Reading.{readTask};
 ghost use Rattle.task.specs.Verdict.{valueOf};
 ghost use Rattle.step.specs.Single.{singleStep};
+ghost use Rattle.steps.specs.Many.{manySteps};
 ghost use Rattle.checker.specs.Check.{check};
 ghost use Rattle.checker.specs.Write.{write};
-ghost use Rattle.capi.specs.Packed.{packed};
+ghost use Rattle.capi.specs.Packed.{packed, placeOf, packedSteps};
 
 // An answer as one number.
 fn packed(verdict: Verdict) -> u64
@@ -22,6 +26,21 @@ fn packed(verdict: Verdict) -> u64
     match verdict {
         Verdict::Accepted { value } => value as u64,
         Verdict::Refused { question, place } => question as u64 * 0x1_0000_0000 + place as u64,
+    }
+}
+
+// The answer to a number of steps as one number.
+fn packed_steps(answer: StepsAnswer) -> u64
+    requires { ⌜ placeOf (answer .verdict) < 2 ^ 32 ⌝ }
+    ensures { λ r. ⌜ r ≡ packedSteps answer ⌝ }
+{
+    let made = answer.made as u64 * 0x1_0000_0000;
+    let verdict = answer.verdict;
+    match verdict {
+        Verdict::Accepted { value: _ } => made,
+        Verdict::Refused { question, place } => question as u64 * 0x1_0000_0000_0000
+            + made
+            + place as u64,
     }
 }
 
@@ -66,4 +85,15 @@ pub extern "C" fn pp_step(task: &[u8], program: &[u8], run: &mut Position) -> u6
 {
     let verdict = step_in_place(task, program, run);
     packed(verdict)
+}
+
+// A number of instructions of a caller's run, at most 4,096: questions 1 to 9, 25 to 27 and 31 once, and then 14, 28 and 19 to 22 before each. It stops
+// early at the finish and at a refusal. The run record then has the position after the last one that was run, after a refusal too.
+#[no_mangle]
+pub extern "C" fn pp_steps(task: &[u8], program: &[u8], count: u64, run: &mut Position) -> u64
+    ensures { λ r. ⌜ (r ≡ packedSteps (manySteps (now (task .entry)) (now (program .entry)) count (now (run .entry)) .answer))
+        × (now (run .exit) ≡ manySteps (now (task .entry)) (now (program .entry)) count (now (run .entry)) .position) ⌝ }
+{
+    let answer = many_steps_in_place(task, program, count, run);
+    packed_steps(answer)
 }

@@ -1,6 +1,7 @@
 -- The head of a position: all of it but the frames below the top one. The checker and the writer keep it while they run, and before each step
 -- `callerOf` beside it, at its depth; with that its moves are those of the position (law `moved-stands`). The single step takes it from a position
--- and stores it there after its move (law `moved-stored`). Only contracts of functions below the entries cite this.
+-- and stores it there after its move (law `moved-stored`); a number of steps in one call keeps it over the position's own frames. Only contracts of
+-- functions below the entries cite this.
 use Prim.Native.Nat.{ℕ, _+_, _-_, _≤_, _<_}
 use mathlib.Core.Path.{_≡_}
 use mathlib.Core.List.{List}

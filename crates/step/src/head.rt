@@ -1,5 +1,6 @@
 // What the checker and the writer keep of a position while they run: all but the frames below the top one, which are kept in an array
-// beside it, each at the depth at which it called. So a step copies no stack. The single step takes it from a position, and stores it there.
+// beside it, each at the depth at which it called. So a step copies no stack. The single step takes it from a position, and stores it there;
+// a number of steps in one call keeps it over the position's own frames.
 use crate::facts::has;
 use crate::position::Frame;
 use crate::position::Position;
@@ -44,7 +45,7 @@ impl Head {
     }
 
     // The head of a position.
-    pub(crate) fn of(position: Position) -> Head
+    pub fn of(position: Position) -> Head
         requires { ⌜ position .depth ≤ 16 ⌝ }
         ensures { λ r. ⌜ r ≡ headOf position ⌝ }
     {

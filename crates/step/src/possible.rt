@@ -28,7 +28,7 @@ fn frames_fit(bounds: Bounds, position: Position) -> bool
 }
 
 // Question 31. No frame exactly when all cases are finished, else 1 to m.
-pub(crate) fn possible(index: Index, position: Position) -> bool
+pub fn possible(index: Index, position: Position) -> bool
     ensures { λ r. ⌜ r ≡ possible index position ⌝ }
 {
     let mut fits = position.case <= index.cases;

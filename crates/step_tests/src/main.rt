@@ -1,10 +1,11 @@
-// Runs stored positions through the single step of a run and writes what it answers.
+// Runs stored positions through the single step of a run, and through the call for a number of steps, and writes what they answer.
 //
 // The input is a run of records. Kind 0: text, written as it is. Kind 65535: a program's length (2 bytes), the program and a task; the writer
 // answers, and if it accepts, as many single steps as its plan has are made from the first case's start, each behind the plan's own step, and one
-// call more. Any other kind k: a position (44 bytes: facts 8, steps 2, case 1, depth 1, sixteen frames of procedure and line), and then a
-// program and a task as above; k single steps are made, each from the position that the one before left. After each step its number, its value
-// and the whole position are written.
+// call more. Kind 65534: how many calls (2 bytes), for how many steps each asks (8 bytes), and then a position (44 bytes: facts 8, steps 2, case 1,
+// depth 1, sixteen frames of procedure and line), a program and a task as above; the calls are made, each from the position that the one before
+// left. Any other kind k: a position, a program and a task; k single steps are made in the same way. After each step or call its number, its value,
+// after a call the number of steps made, and the whole position are written.
 use checker::write::write_plan;
 use libc::STDIN_FILENO;
 use libc::STDOUT_FILENO;
@@ -14,6 +15,7 @@ use records::numbers::two_at;
 use step::position::Frame;
 use step::position::Position;
 use step::single::single_step;
+use steps::many::many_steps;
 use task::index::Index;
 use task::index::case_at;
 use task::instruction::Line;
@@ -113,7 +115,27 @@ fn write_steps(count: u16, task: &[u8], program: &[u8], first: Position) {
     }
 }
 
-fn write_request(count: u16, bytes: &[u8]) {
+// Makes one call for a number of steps, writes its answer, and gives the position after it.
+fn write_call(task: &[u8], program: &[u8], number: u64, position: Position) -> Position {
+    let taken = many_steps(task, program, number, position);
+    let answer = taken.answer;
+    let verdict = answer.verdict;
+    let next = taken.position;
+    write_verdict(verdict);
+    write_number(b" made ", answer.made as u64);
+    write_position(next);
+    next
+}
+
+fn write_calls(numbers: &[u8], task: &[u8], program: &[u8], first: Position) {
+    let mut position = first;
+    for k in 0..numbers.len() / 8 {
+        position = write_call(task, program, eight_at(numbers, 8 * k), position);
+    }
+}
+
+// From the position of a request so many single steps, or, where there are numbers of steps, a call for each.
+fn write_request(count: u16, numbers: &[u8], bytes: &[u8]) {
     if bytes.len() < 46 {
         return;
     }
@@ -121,7 +143,22 @@ fn write_request(count: u16, bytes: &[u8]) {
     if bytes.len() < end {
         return;
     }
-    write_steps(count, &bytes[end..], &bytes[46..end], position_of(bytes));
+    let task = &bytes[end..];
+    let program = &bytes[46..end];
+    let first = position_of(bytes);
+    write_steps(count, task, program, first);
+    write_calls(numbers, task, program, first);
+}
+
+fn write_calls_request(bytes: &[u8]) {
+    if bytes.len() < 2 {
+        return;
+    }
+    let end = 2 + 8 * (two_at(bytes, 0) as usize);
+    if bytes.len() < end {
+        return;
+    }
+    write_request(0, &bytes[2..end], &bytes[end..]);
 }
 
 // Writes the step that a plan has at an offset: its line and its instruction's three bytes.
@@ -219,7 +256,8 @@ fn answer_body(kind: u16, body: &mut [u8]) {
     match kind {
         0 => write(body),
         65535 => write_run_request(body),
-        _ => write_request(kind, body),
+        65534 => write_calls_request(body),
+        _ => write_request(kind, b"", body),
     }
 }
 
