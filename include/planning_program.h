@@ -1,7 +1,7 @@
 /* Checks and writes plans of planning programs: the C interface of the proved library, for C11 and C++11 or later.
  *
  * Link target/staticlib/libcapi.a, which `rt staticlib capi` makes. docs/FORMATS.md fixes the files, the questions and the places;
- * examples/c/check_and_write.c uses every function.
+ * examples/c/check_and_write.c uses every function but pp_check_task.
  */
 #ifndef PLANNING_PROGRAM_H
 #define PLANNING_PROGRAM_H
@@ -41,7 +41,8 @@ enum pp_question {
     PP_PLAN_RECORD_KIND = 12,    /* the record is neither a step nor the closing record */
     PP_PLAN_RECORD_LENGTH = 13,  /* the record's length is not its kind's */
 
-    /* Checker, writer and single step. From the checker the place is the offset of the plan's record, from the others the steps made. */
+    /* Checker, writer, pp_step and pp_steps. From the checker the place is the offset of the plan's record, from the others the steps that
+     * the run has made. */
     PP_STEP_BOUND = 14,          /* as many steps as the task allows are made already */
 
     /* The checker, at a step. The place is the offset of the plan's record. */
@@ -50,7 +51,7 @@ enum pp_question {
     PP_STEP_ELSEWHERE = 17,      /* the step is not at the line where the run is */
     PP_STEP_LINE = 18,           /* a write of a line that is not empty, or a repeat of what the line does not hold */
 
-    /* Checker, writer and single step, running an instruction. The place is as for PP_STEP_BOUND. */
+    /* Checker, writer, pp_step and pp_steps, running an instruction. The place is as for PP_STEP_BOUND. */
     PP_PRECONDITION = 19,        /* the action's precondition does not hold */
     PP_CLASH = 20,               /* effects that fire raise and lower the same fact */
     PP_STACK_FULL = 21,          /* the call stack is full */
@@ -60,15 +61,15 @@ enum pp_question {
     PP_CASE_OPEN = 23,           /* some case is not finished */
     PP_PLAN_NOT_ENDED = 24,      /* something follows the closing record */
 
-    /* A program, for the writer and the single step. The place is the offset of the lowest line at fault; for PP_PROGRAM_LENGTH it is 0. */
+    /* A program, for writer, pp_step and pp_steps. The place is the offset of the lowest line at fault; for PP_PROGRAM_LENGTH it is 0. */
     PP_PROGRAM_LENGTH = 25,      /* it has not exactly three bytes for each line */
     PP_PROGRAM_INSTRUCTION = 26, /* the instruction is not allowed on its line */
     PP_PROGRAM_PRESET = 27,      /* a preset line does not hold its preset */
 
-    PP_LINE_EMPTY = 28,          /* writer and single step: the run is at an empty line; the place is the steps made */
+    PP_LINE_EMPTY = 28,          /* writer, pp_step and pp_steps: the run is at an empty line; the place is as for PP_STEP_BOUND */
     PP_PLAN_NO_ROOM = 29,        /* writer: the buffer has no room for the plan; the place is the bytes needed */
     PP_FILE_TOO_LONG = 30,       /* the program check_plan alone: a file has more than 65,536 bytes; the place is 65536 */
-    PP_RUN_IMPOSSIBLE = 31       /* single step: the record cannot be a position of the task; the place is 0 */
+    PP_RUN_IMPOSSIBLE = 31       /* pp_step and pp_steps: the record cannot be a position of the task; the place is 0 */
 };
 
 /* A run record, which the caller keeps. A fresh one has the facts of the first case's start, depth 1 and 0 in every other field. */
@@ -87,9 +88,15 @@ PP_STATIC_ASSERT(offsetof(pp_run, case_number) == 10, "the case is at 10");
 PP_STATIC_ASSERT(offsetof(pp_run, depth) == 11, "the depth is at 11");
 PP_STATIC_ASSERT(offsetof(pp_run, frames) == 12, "the frames are at 12");
 
-/* Every function answers number * 2^32 + value: PP_OK and a value, or the question that says no and its place. */
+/* Every function but pp_steps answers number * 2^32 + value: PP_OK and a value, or the question that says no and its place. */
 static inline uint32_t pp_number(uint64_t answer) { return (uint32_t)(answer >> 32); }
 static inline uint32_t pp_value(uint64_t answer) { return (uint32_t)answer; }
+
+/* pp_steps answers number * 2^48 + steps made * 2^32 + place: PP_OK and place 0, or the question that says no and its place; and in either
+ * case the steps that the call made. */
+static inline uint32_t pp_steps_number(uint64_t answer) { return (uint32_t)(answer >> 48); }
+static inline uint32_t pp_steps_made(uint64_t answer) { return (uint32_t)(answer >> 32) & 0xffff; }
+static inline uint32_t pp_steps_place(uint64_t answer) { return (uint32_t)answer; }
 
 /* What the caller owes every function: as many bytes of valid memory at each pointer as the length says, and a buffer or record, the last
  * argument, that overlaps none of the others. A pointer may be null where its length is 0. The bytes themselves may be anything. Nothing
@@ -112,6 +119,12 @@ uint64_t pp_write_plan(const uint8_t *task, size_t task_len, const uint8_t *prog
  * next position; or it is 0, and the run was finished already. That and a refusal leave the record as it was. `run` is a valid pointer to a
  * record, aligned as the struct is, and never null. */
 uint64_t pp_step(const uint8_t *task, size_t task_len, const uint8_t *program, size_t program_len, pp_run *run);
+
+/* Does what `count` single steps do, and reads task and program once; a count above 4,096 counts as 4,096. Questions 1 to 9, 25 to 27 and
+ * 31 come first, even when the count is 0; then 14, 28 and 19 to 22 before each step that is still wanted. It stops early at the finish or
+ * at a refusal; of a finished run it makes no step. The record then has the position after the last good step, after a refusal too: here
+ * alone, and for the record alone, a refusal may change what was lent. `run` is as for pp_step. */
+uint64_t pp_steps(const uint8_t *task, size_t task_len, const uint8_t *program, size_t program_len, uint64_t count, pp_run *run);
 
 #ifdef __cplusplus
 }

@@ -1,11 +1,11 @@
-/* Checks the plan in a folder, prints its program, writes the program back to a plan and runs it by single steps.
+/* Checks the plan in a folder, prints its program, writes the program back to a plan and runs it, by single steps and by forty in a call.
  *
  * Build it from the root of the repository, once `rt staticlib capi` has made the library:
  *
  *     cc -std=c11 -Wall -Wextra -Werror -I include -o target/check_and_write examples/c/check_and_write.c target/staticlib/libcapi.a
  *
  * `target/check_and_write FOLDER` reads task.bin and plan.bin in the folder, samples/double-click if none is named. The exit status is 0 when
- * the plan is accepted, comes back byte for byte and its program runs to the finish in as many steps.
+ * the plan is accepted, comes back byte for byte and its program runs to the finish in as many steps, both ways.
  */
 #include "planning_program.h"
 
@@ -40,11 +40,11 @@ static bool read_file(const char *folder, const char *name, file *into) {
     return whole;
 }
 
-static bool accepted(const char *what, uint64_t answer) {
-    if (pp_number(answer) == PP_OK) {
+static bool accepted(const char *what, uint32_t number, uint32_t place) {
+    if (number == PP_OK) {
         return true;
     }
-    printf("%s: refused %u %u\n", what, (unsigned)pp_number(answer), (unsigned)pp_value(answer));
+    printf("%s: refused %u %u\n", what, (unsigned)number, (unsigned)place);
     return false;
 }
 
@@ -101,7 +101,7 @@ static void print_program(const uint8_t *program, unsigned b, unsigned n) {
 static bool write_back(const file *task, const uint8_t *program, size_t program_len, const file *plan) {
     static uint8_t written[PP_MAX_PLAN_LEN];
     uint64_t answer = pp_write_plan(task->bytes, task->len, program, program_len, written, sizeof written);
-    if (!accepted("written back", answer)) {
+    if (!accepted("written back", pp_number(answer), pp_value(answer))) {
         return false;
     }
     size_t written_len = 9 * (size_t)pp_value(answer) + 4;
@@ -110,17 +110,37 @@ static bool write_back(const file *task, const uint8_t *program, size_t program_
     return same;
 }
 
+/* A fresh record, at the first case's start. */
+static pp_run first_position(const file *task) {
+    pp_run run = {.facts = first_start(task->bytes), .depth = 1};
+    return run;
+}
+
 /* Runs the program by single steps, and says whether it finishes with this number of them. */
 static bool run_by_steps(const file *task, const uint8_t *program, size_t program_len, uint32_t steps) {
-    pp_run run = {.facts = first_start(task->bytes), .depth = 1};
+    pp_run run = first_position(task);
     uint64_t answer;
     do {
         answer = pp_step(task->bytes, task->len, program, program_len, &run);
     } while (pp_number(answer) == PP_OK && pp_value(answer) == 1);
-    if (!accepted("by single steps", answer)) {
+    if (!accepted("by single steps", pp_number(answer), pp_value(answer))) {
         return false;
     }
     printf("by single steps: finished after %u\n", (unsigned)run.steps);
+    return run.steps == steps;
+}
+
+/* The same by forty steps in a call. A call that makes fewer, and is not refused, is at the finish. */
+static bool run_by_forty(const file *task, const uint8_t *program, size_t program_len, uint32_t steps) {
+    pp_run run = first_position(task);
+    uint64_t answer;
+    do {
+        answer = pp_steps(task->bytes, task->len, program, program_len, 40, &run);
+    } while (pp_steps_number(answer) == PP_OK && pp_steps_made(answer) == 40);
+    if (!accepted("by forty steps in a call", pp_steps_number(answer), pp_steps_place(answer))) {
+        return false;
+    }
+    printf("by forty steps in a call: finished after %u\n", (unsigned)run.steps);
     return run.steps == steps;
 }
 
@@ -132,7 +152,7 @@ int main(int count, char **words) {
     }
     uint8_t program[PP_MAX_PROGRAM_LEN];
     uint64_t answer = pp_check_plan(task.bytes, task.len, plan.bytes, plan.len, program, sizeof program);
-    if (!accepted("checked", answer)) {
+    if (!accepted("checked", pp_number(answer), pp_value(answer))) {
         return 1;
     }
     /* The task has passed with the plan: its bounds b and n are at 5 and 6. */
@@ -142,5 +162,6 @@ int main(int count, char **words) {
     print_program(program, b, n);
     bool same = write_back(&task, program, program_len, &plan);
     bool finished = run_by_steps(&task, program, program_len, pp_value(answer));
-    return same && finished ? 0 : 1;
+    bool finished_too = run_by_forty(&task, program, program_len, pp_value(answer));
+    return same && finished && finished_too ? 0 : 1;
 }

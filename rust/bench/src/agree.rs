@@ -1,9 +1,10 @@
 //! Before anything is measured: both sides give the answers that the input was made for.
 
+use crate::entry::FORTY;
 use crate::inputs::Input;
 use crate::position;
 use crate::sides::{Side, LIBRARY, REFERENCE, SIDES};
-use reference::Answer;
+use reference::{Answer, StepsAnswer};
 
 /// Panics where a side answers otherwise.
 pub fn check(name: &str, input: &Input) {
@@ -11,6 +12,7 @@ pub fn check(name: &str, input: &Input) {
         check_side(name, input, side);
     }
     check_run(name, input);
+    check_run_by_forty(name, input);
 }
 
 fn check_side(name: &str, input: &Input, side: &Side) {
@@ -48,4 +50,22 @@ fn check_run(name: &str, input: &Input) {
         }
         assert!(one == other, "{name}: the record after step {step}");
     }
+}
+
+/// So do their calls for forty steps.
+fn check_run_by_forty(name: &str, input: &Input) {
+    let (mut one, mut other) = (position::start(input), position::start(input));
+    for done in (0..=input.steps).step_by(FORTY.into()) {
+        let answer = StepsAnswer {
+            number: 0,
+            place: 0,
+            made: (input.steps - done).min(FORTY.into()) as u16,
+        };
+        for (side, run) in [(&LIBRARY, &mut one), (&REFERENCE, &mut other)] {
+            let given = (side.steps)(&input.task, &input.program, FORTY.into(), run);
+            assert_eq!(given, answer, "{name}, {}: from step {done}", side.name);
+        }
+        assert!(one == other, "{name}: the record from step {done} on");
+    }
+    assert_eq!(one.depth, 0, "{name}: the finish");
 }

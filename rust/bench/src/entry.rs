@@ -3,7 +3,7 @@
 use crate::inputs::Input;
 use crate::position;
 use crate::sides::Side;
-use reference::{Answer, Run};
+use reference::{Answer, Run, StepsAnswer};
 use std::hint::black_box;
 
 /// An instruction's op.
@@ -24,17 +24,23 @@ pub enum Entry {
     Step,
     /// One call of the single step, at the first position of the run where this op is next.
     OneStep(Op),
+    /// One call for forty steps, from the start on.
+    Steps40,
 }
 
 /// The calls after which a run by single steps stops: each of them reads the whole task.
 const MOST_CALLS: u32 = 64;
 
+/// The steps that one call is asked for.
+pub const FORTY: u16 = 40;
+
 impl Entry {
-    pub const EACH: [Entry; 4] = [
+    pub const EACH: [Entry; 5] = [
         Entry::CheckTask,
         Entry::CheckPlan,
         Entry::WritePlan,
         Entry::Step,
+        Entry::Steps40,
     ];
 
     pub fn name(self) -> &'static str {
@@ -47,6 +53,7 @@ impl Entry {
             Entry::OneStep(Op::Goto) => "step-goto",
             Entry::OneStep(Op::Call) => "step-call",
             Entry::OneStep(Op::End) => "step-end",
+            Entry::Steps40 => "steps-40",
         }
     }
 
@@ -107,6 +114,16 @@ pub fn measured(call: &mut Call) -> Answer {
                 black_box((side.step)(&input.task, &input.program, &mut run));
             }
             (side.step)(&input.task, &input.program, black_box(&mut run))
+        }
+        Entry::Steps40 => {
+            let mut run = call.start;
+            let count = FORTY.into();
+            let StepsAnswer { number, made, .. } =
+                (side.steps)(&input.task, &input.program, count, black_box(&mut run));
+            Answer {
+                number,
+                value: made.into(),
+            }
         }
     };
     black_box(answer)

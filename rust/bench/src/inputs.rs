@@ -63,7 +63,7 @@ pub const INPUTS: [Named; 8] = [
     ("large", large::input),
     ("largest-task", large::largest_task),
     ("calls", calls::input),
-    ("growth-64", || growth::input(64)),
+    ("growth-64", growth::shortest),
     ("growth-256", || growth::input(256)),
     ("growth-1024", || growth::input(1024)),
     ("growth-4096", || growth::input(4096)),

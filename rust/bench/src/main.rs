@@ -1,7 +1,7 @@
 //! The proved library beside the plain Rust one: instructions and time of a call of each entry.
 //!
 //! `bench` measures all. `bench count-all [FILTER]` counts instructions alone, in the rows whose `INPUT/ENTRY` contains the filter.
-//! A row of `step` is the mean over the first 64 calls of a run, or all if there are fewer.
+//! A row of `step` is the mean over the first 64 calls of a run, or all if there are fewer; one of `steps-40` is one call for forty steps.
 
 mod agree;
 mod clock;

@@ -1,4 +1,4 @@
-//! Positions from which single steps are measured.
+//! Positions from which steps are measured.
 
 use crate::entry::Op;
 use crate::inputs::Input;

@@ -3,7 +3,7 @@
 mod library;
 mod plain;
 
-use reference::{Answer, Run};
+use reference::{Answer, Run, StepsAnswer};
 
 pub struct Side {
     pub name: &'static str,
@@ -11,6 +11,7 @@ pub struct Side {
     pub check_plan: fn(&[u8], &[u8], &mut [u8]) -> Answer,
     pub write_plan: fn(&[u8], &[u8], &mut [u8]) -> Answer,
     pub step: fn(&[u8], &[u8], &mut Run) -> Answer,
+    pub steps: fn(&[u8], &[u8], u64, &mut Run) -> StepsAnswer,
 }
 
 /// The proved library.
@@ -20,6 +21,7 @@ pub static LIBRARY: Side = Side {
     check_plan: library::check_plan,
     write_plan: library::write_plan,
     step: library::step,
+    steps: library::steps,
 };
 
 /// The plain Rust implementation.
@@ -29,6 +31,7 @@ pub static REFERENCE: Side = Side {
     check_plan: plain::check_plan,
     write_plan: plain::write_plan,
     step: plain::step,
+    steps: plain::steps,
 };
 
 pub static SIDES: [&Side; 2] = [&LIBRARY, &REFERENCE];

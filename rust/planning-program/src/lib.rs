@@ -2,8 +2,9 @@
 //!
 //! A *task* names facts, actions and cases, each case with a start and a goal. A *program* is numbered lines that do an action, jump on a
 //! fact, call a procedure or end it; a *plan* writes such a program line by line and runs it on every case. A [`Task`] says whether a plan
-//! does so, and which program it wrote; it runs a program and writes its plan; and a [`Run`] runs a program by single steps. Each no is a
-//! [`Refusal`]: the number of the first question whose answer is no, and its place.
+//! does so, and which program it wrote; it runs a program and writes its plan; and a [`Run`] runs a program by single steps, or by many in a
+//! call. Each no is a [`Refusal`]: the number of the first question whose answer is no, and its place. A no to many steps is a
+//! [`StepsRefusal`], which says how many were made before it.
 //!
 //! ```
 //! use planning_program::{Progress, Refusal, Run, Task};
@@ -37,6 +38,6 @@ mod refusal;
 mod run;
 mod task;
 
-pub use refusal::Refusal;
+pub use refusal::{Refusal, StepsRefusal};
 pub use run::{Progress, Run};
 pub use task::{plan_len, CheckedPlan, Task, MAX_PLAN_LEN, MAX_PROGRAM_LEN};

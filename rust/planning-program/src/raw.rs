@@ -1,5 +1,5 @@
-//! The library's entries as they are. The `pp_` functions are the C interface: pointers and lengths in, `number * 2^32 + value` out. Beside
-//! each stands a safe function over slices, for callers that want to ask an entry about any bytes at all.
+//! The library's entries as they are. The `pp_` functions are the C interface: pointers and lengths in, a packed answer out. Beside each
+//! stands a safe function over slices, for callers that want to ask an entry about any bytes at all.
 
 use std::mem::{offset_of, size_of};
 
@@ -39,12 +39,35 @@ pub struct Answer {
 }
 
 impl Answer {
-    /// The two numbers of a packed answer.
+    /// The two numbers of a packed answer, `number * 2^32 + value`.
     #[inline]
     pub const fn unpacked(packed: u64) -> Answer {
         Answer {
             number: (packed >> 32) as u32,
             value: packed as u32,
+        }
+    }
+}
+
+/// The answer of [`steps`]: 0, or the number of the first question whose answer is no and its place; and in either case the steps made.
+#[derive(Clone, Copy, Debug, PartialEq, Eq)]
+pub struct StepsAnswer {
+    /// 0, or the question.
+    pub number: u32,
+    /// The place, or 0.
+    pub place: u32,
+    /// The steps that this call made.
+    pub made: u16,
+}
+
+impl StepsAnswer {
+    /// The three numbers of a packed answer, `number * 2^48 + made * 2^32 + place`.
+    #[inline]
+    pub const fn unpacked(packed: u64) -> StepsAnswer {
+        StepsAnswer {
+            number: (packed >> 48) as u32,
+            place: packed as u32,
+            made: (packed >> 32) as u16,
         }
     }
 }
@@ -79,6 +102,23 @@ pub fn step(task: &[u8], program: &[u8], run: &mut Run) -> Answer {
             task.len(),
             program.as_ptr(),
             program.len(),
+            run,
+        )
+    })
+}
+
+/// A number of single steps, at most 4,096; a greater `count` counts as 4,096. They stop early at the finish or at a refusal. Here alone, and
+/// for the record alone, a refusal may change what was lent: `run` has the position after the last good step.
+#[inline]
+pub fn steps(task: &[u8], program: &[u8], count: u64, run: &mut Run) -> StepsAnswer {
+    // SAFETY: as for the single step.
+    StepsAnswer::unpacked(unsafe {
+        pp_steps(
+            task.as_ptr(),
+            task.len(),
+            program.as_ptr(),
+            program.len(),
+            count,
             run,
         )
     })
@@ -138,4 +178,36 @@ extern "C" {
         program_len: usize,
         run: *mut Run,
     ) -> u64;
+
+    /// See [`steps`]. The caller owes what [`pp_step`] asks for; any `count` will do.
+    pub fn pp_steps(
+        task: *const u8,
+        task_len: usize,
+        program: *const u8,
+        program_len: usize,
+        count: u64,
+        run: *mut Run,
+    ) -> u64;
+}
+
+#[cfg(test)]
+mod tests {
+    use super::StepsAnswer;
+
+    #[test]
+    fn three_numbers_of_a_packed_answer() {
+        let answer = |number, made, place| StepsAnswer {
+            number,
+            place,
+            made,
+        };
+        for (packed, unpacked) in [
+            (0x0000_0028_0000_0000, answer(0, 40, 0)),
+            (0x000e_0000_0000_1000, answer(14, 0, 4096)),
+            (0x001c_0fff_fedc_ba98, answer(28, 4095, 0xfedc_ba98)),
+            (u64::MAX, answer(0xffff, 0xffff, 0xffff_ffff)),
+        ] {
+            assert_eq!(StepsAnswer::unpacked(packed), unpacked);
+        }
+    }
 }

@@ -1,10 +1,11 @@
 //! Why a task, a plan, a program or a run is turned down, in numbers and in words.
 
-use crate::raw::Answer;
+use crate::raw::{Answer, StepsAnswer};
 use std::error::Error;
 use std::fmt;
 
-/// A no: the first question, in the order of asking, whose answer is no, and its place. Nothing that was lent has been changed.
+/// A no: the first question, in the order of asking, whose answer is no, and its place. Nothing that was lent has been changed, save the
+/// run of a [`StepsRefusal`].
 ///
 /// `docs/FORMATS.md` has the questions. What the place counts is the question's matter: a byte of the file for most, the steps made for a
 /// program that is run, the bytes needed for 29. Questions 14 and 19 to 22 are asked of a plan's record, where the place is its offset, and
@@ -39,7 +40,7 @@ enum Place {
     Program,
     /// The steps made.
     Steps,
-    /// From the checker the offset in the plan; from the writer and the single step the steps made.
+    /// From the checker the offset in the plan; from the others the steps made.
     PlanOrSteps,
     /// The bytes that the buffer would need.
     Needed,
@@ -134,7 +135,7 @@ impl Refusal {
 impl fmt::Display for Refusal {
     fn fmt(&self, f: &mut fmt::Formatter<'_>) -> fmt::Result {
         let Refusal { question, place } = self;
-        let s = if *place == 1 { "" } else { "s" };
+        let s = plural(*place);
         write!(f, "question {question}")?;
         match self.row().map(|row| row.0) {
             Some(Place::Task) => write!(f, " at byte {place} of the task")?,
@@ -155,6 +156,47 @@ impl fmt::Display for Refusal {
 
 impl Error for Refusal {}
 
+/// A no to a number of steps: the refusal, and the steps that the call made before it.
+///
+/// Here alone, and for the run alone, a refusal may change what was lent: the run has the position after the last good step. The place of 14,
+/// 19 to 22 and 28 is the number of steps of the whole run, in this call and before.
+///
+/// ```
+/// use planning_program::{Refusal, StepsRefusal};
+///
+/// let refusal = Refusal { question: 28, place: 43 };
+/// assert_eq!(
+///     StepsRefusal { refusal, made: 3 }.to_string(),
+///     "3 steps made, then question 28 after 43 steps: the run is at an empty line",
+/// );
+/// ```
+#[derive(Clone, Copy, Debug, PartialEq, Eq, Hash)]
+pub struct StepsRefusal {
+    /// The question that says no, and its place.
+    pub refusal: Refusal,
+    /// The steps that the call made.
+    pub made: u16,
+}
+
+impl fmt::Display for StepsRefusal {
+    fn fmt(&self, f: &mut fmt::Formatter<'_>) -> fmt::Result {
+        let StepsRefusal { refusal, made } = self;
+        let s = plural((*made).into());
+        write!(f, "{made} step{s} made, then {refusal}")
+    }
+}
+
+impl Error for StepsRefusal {}
+
+/// What a word ends in behind this number.
+fn plural(number: u32) -> &'static str {
+    if number == 1 {
+        ""
+    } else {
+        "s"
+    }
+}
+
 /// The value of an answer, or the refusal.
 pub(crate) fn value(answer: Answer) -> Result<u32, Refusal> {
     match u8::try_from(answer.number).expect("a question's number is at most 31") {
@@ -166,9 +208,25 @@ pub(crate) fn value(answer: Answer) -> Result<u32, Refusal> {
     }
 }
 
+/// The steps made, or the refusal beside them.
+pub(crate) fn made(answer: StepsAnswer) -> Result<u16, StepsRefusal> {
+    let StepsAnswer {
+        number,
+        place,
+        made,
+    } = answer;
+    let result = value(Answer {
+        number,
+        value: place,
+    });
+    result
+        .map(|_| made)
+        .map_err(|refusal| StepsRefusal { refusal, made })
+}
+
 #[cfg(test)]
 mod tests {
-    use super::Refusal;
+    use super::{Refusal, StepsRefusal};
 
     fn shown(question: u8, place: u32) -> String {
         Refusal { question, place }.to_string()
@@ -195,6 +253,22 @@ mod tests {
             (31, 0, "question 31: "),
         ] {
             let shown = shown(question, place);
+            assert!(shown.starts_with(start), "{shown}");
+        }
+    }
+
+    #[test]
+    fn steps_made_in_words() {
+        let refusal = Refusal {
+            question: 28,
+            place: 4095,
+        };
+        for (made, start) in [
+            (0, "0 steps made, then question 28 after 4095 steps: "),
+            (1, "1 step made, then question 28 after 4095 steps: "),
+            (4095, "4095 steps made, then question 28 after 4095 steps: "),
+        ] {
+            let shown = StepsRefusal { refusal, made }.to_string();
             assert!(shown.starts_with(start), "{shown}");
         }
     }

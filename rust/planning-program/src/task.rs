@@ -221,7 +221,7 @@ mod tests {
     fn a_fresh_run() {
         let bytes = task();
         let run = Run::start(&Task::check(&bytes).expect("a task that passes"));
-        assert_eq!((run.facts(), run.case(), run.steps()), (22, 0, 0));
+        assert_eq!((run.facts(), run.case(), run.steps_made()), (22, 0, 0));
         assert_eq!(run.frames(), [[0, 0]]);
         assert_eq!(run.record().frames, [[0, 0]; 16]);
         assert!(!run.is_finished());

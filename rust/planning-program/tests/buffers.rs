@@ -1,15 +1,18 @@
 //! What the library touches of the memory that it is lent: nothing outside the given lengths, nothing at all when it refuses, and the first
-//! bytes of the buffer alone when it accepts.
+//! bytes of the buffer alone when it accepts. A record that was moved on by several steps is the one thing that a refusal leaves changed.
 
 mod requests;
 
-use planning_program::raw::{self, Answer};
+use planning_program::raw::{self, Answer, StepsAnswer};
 use planning_program::{plan_len, Run, Task};
-use requests::{of_kind, shown_with_buffer, shown_with_run};
+use requests::{of_kind, shown_steps_with_run, shown_with_buffer, shown_with_run, Vector};
 use std::ptr::{null, null_mut};
 
 /// An entry that reads two slices and fills a buffer.
 type Filling = fn(&[u8], &[u8], &mut [u8]) -> Answer;
+
+/// An entry that moves a record on: the answer and the record afterwards in words, and whether a step was made.
+type Moving = fn(&Vector, &[u8], &[u8], &mut raw::Run) -> (String, bool);
 
 const TASK: &[u8] = include_bytes!("../../../samples/double-click/task.bin");
 const PLAN: &[u8] = include_bytes!("../../../samples/double-click/plan.bin");
@@ -116,19 +119,34 @@ fn writes_between_guards() {
     fill_between_guards("write", raw::write_plan, |_, steps| plan_len(steps));
 }
 
-#[test]
-fn steps_between_guards() {
-    for (v, guard) in guarded(&of_kind("step")) {
+/// Asks an entry all its requests, each with its record between guards. One that makes no step leaves the record as it was.
+fn move_between_guards(kind: &str, entry: Moving) {
+    for (v, guard) in guarded(&of_kind(kind)) {
         let [task, program] = [v.task(), v.other()].map(|bytes| Guarded::new(&bytes, guard));
         let mut lent = GuardedRun::new(v.run(), guard);
-        let answer = raw::step(task.bytes(), program.bytes(), &mut lent.run);
-        assert_eq!(shown_with_run(answer, &lent.run), v.expected);
-        let stepped = answer == accepted(1);
+        let (answer, stepped) = entry(v, task.bytes(), program.bytes(), &mut lent.run);
+        assert_eq!(answer, v.expected);
         let expected = if stepped { lent.run } else { v.run() };
         assert_eq!(lent, GuardedRun::new(expected, guard), "line {}", v.line);
         assert_eq!(task, Guarded::new(&v.task(), guard), "line {}", v.line);
         assert_eq!(program, Guarded::new(&v.other(), guard), "line {}", v.line);
     }
+}
+
+#[test]
+fn single_steps_between_guards() {
+    move_between_guards("step", |_, task, program, run| {
+        let answer = raw::step(task, program, run);
+        (shown_with_run(answer, run), answer == accepted(1))
+    });
+}
+
+#[test]
+fn steps_between_guards() {
+    move_between_guards("steps", |v, task, program, run| {
+        let answer = raw::steps(task, program, v.count(), run);
+        (shown_steps_with_run(answer, run), answer.made > 0)
+    });
 }
 
 /// Lends a buffer of each length up to twice the bytes that are due. One that is too short gets the refusal and keeps its bytes.
@@ -164,12 +182,25 @@ fn filling_refused(entry: Filling, task: &[u8], other: &[u8], answer: Answer) {
     assert_eq!(buffer, [0xee; 64]);
 }
 
-/// The single step gives this refusal and leaves the record as it was.
+/// The single step gives this refusal, and so does any number of steps; the record is left as it was.
 fn step_refused(task: &[u8], program: &[u8], answer: Answer) {
     let fresh = fresh();
     let mut run = fresh;
     assert_eq!(raw::step(task, program, &mut run), answer);
+    for count in [0, 1, 40, u64::MAX] {
+        let given = raw::steps(task, program, count, &mut run);
+        assert_eq!(given, no_step(answer), "{count} steps");
+    }
     assert_eq!(run, fresh);
+}
+
+/// A refusal of a number of steps, in which none was made.
+fn no_step(refusal: Answer) -> StepsAnswer {
+    StepsAnswer {
+        number: refusal.number,
+        place: refusal.value,
+        made: 0,
+    }
 }
 
 /// A fresh record for the task.
@@ -226,7 +257,7 @@ fn programs_of_another_length() {
     }
 }
 
-/// A null pointer stands for no bytes, in the place of each slice of each entry.
+/// A null pointer stands for no bytes, in the place of each slice of each entry that answers with two numbers.
 #[test]
 fn null_pointers() {
     let [task, plan, program] = [TASK, PLAN, PROGRAM].map(<[u8]>::as_ptr);
@@ -259,4 +290,20 @@ fn null_pointers() {
     );
     assert_eq!(answers[7..], [refused(1, 0), refused(25, 0)]);
     assert_eq!((buffer, run), ([0xee; 64], fresh()));
+}
+
+/// The same for a number of steps.
+#[test]
+fn null_pointers_for_steps() {
+    let mut run = fresh();
+    // SAFETY: as above; only the record is written.
+    let packed = unsafe {
+        [
+            raw::pp_steps(null(), 0, PROGRAM.as_ptr(), PROGRAM.len(), 40, &mut run),
+            raw::pp_steps(TASK.as_ptr(), TASK.len(), null(), 0, 40, &mut run),
+        ]
+    };
+    let expected = [refused(1, 0), refused(25, 0)].map(no_step);
+    assert_eq!(packed.map(StepsAnswer::unpacked), expected);
+    assert_eq!(run, fresh());
 }

@@ -1,9 +1,10 @@
 //! The proved library beside `reference`, which was written from docs/FORMATS.md and shares no code with it.
 //!
-//! Both get the same 200,000 requests of all four kinds, made from a seed: sound ones, and damaged ones that aim at every question. The
-//! answers must have the same number and value and leave the same bytes in the lent buffer, or the same fields in the run record, after
-//! refusals and beyond what is filled too. A difference is shown with the seed, the request as a line of vectors/README.md, and both
-//! outcomes. Every number has to come up, or the test fails.
+//! Both get the same 200,000 requests of all five kinds, made from a seed: sound ones, and damaged ones that aim at every question. The
+//! answers must have the same number, value and steps made, and leave the same bytes in the lent buffer, or the same fields in the run
+//! record, after refusals and beyond what is filled too. A call for a number of steps must give what as many single steps of the library
+//! give. A difference is shown with the seed, the request as a line of vectors/README.md, and both outcomes. Every number has to come up,
+//! or the test fails.
 //!
 //! With another seed or more requests, and with the table of answers:
 //!
@@ -25,6 +26,7 @@ mod differential {
     mod request;
     pub mod round;
     mod samples;
+    mod single_steps;
     mod tally;
     mod task;
     mod task_damage;
@@ -42,8 +44,10 @@ const SEED: u64 = 20_250_711;
 const LEAST_REQUESTS: usize = 200_000;
 /// How often each of 1 to 29 and 31 has to come up.
 const LEAST_REFUSALS: usize = 50;
-/// How often 0 has to come up for a task, the checker, the writer and the single step, each.
+/// How often 0 has to come up for each kind of request.
 const LEAST_ACCEPTED: usize = 10_000;
+/// How often each of their questions has to come up for the single step, and for a number of steps.
+const LEAST_REFUSALS_OF_STEPS: usize = 20;
 
 #[test]
 fn library_and_reference_agree() {
@@ -57,6 +61,9 @@ fn library_and_reference_agree() {
     print!("{}", caller.tally());
     assert!(caller.tally().total() >= LEAST_REQUESTS);
     caller.tally().assert_least(LEAST_REFUSALS, LEAST_ACCEPTED);
+    caller
+        .tally()
+        .assert_least_of_steps(LEAST_REFUSALS_OF_STEPS);
 }
 
 /// A number from the environment, if it is set.

@@ -191,6 +191,26 @@ fn tree_traversal_is_recursive_to_the_stack_bound() {
     assert_eq!((deepest, task.stack_bound()), (3, 3));
 }
 
+/// Calls for forty steps go to the finish as single steps do, and the last one makes what is left.
+#[test]
+fn forty_steps_in_a_call_go_to_the_finish() {
+    for Sample { name, program, .. } in all() {
+        let (task, plan) = (stored(name, "task.bin"), stored(name, "plan.bin"));
+        let (task, program) = (Task::check(&task).expect(name), program.bytes());
+        let (mut run, mut single) = (Run::start(&task), Run::start(&task));
+        for forty in steps_of(&plan).expect(name).chunks(40) {
+            let made = run.steps(&task, &program, 40);
+            assert_eq!(made, Ok(forty.len() as u16), "{name}");
+            for _ in forty {
+                assert_eq!(single.step(&task, &program), Ok(Progress::Stepped));
+            }
+            assert_eq!(run, single, "{name}");
+        }
+        assert!(run.is_finished(), "{name}");
+        assert_eq!(run.steps(&task, &program, 40), Ok(0), "{name}");
+    }
+}
+
 /// The page about the samples has each one's sizes in its table, and the command and the listing at the end of its section.
 #[test]
 fn readme_is_true() {

@@ -1,12 +1,12 @@
-//! The agreed answers of vectors/base.txt, asked of the library's entries, of the wrapper and of the program `check_plan`; and runs by single
-//! steps beside the plans that they should follow.
+//! The agreed answers of vectors/level-01.txt, asked of the library's entries, of the wrapper and of the program `check_plan`; and runs by
+//! single steps beside the plans that they should follow.
 
 mod requests;
 
-use planning_program::raw::{self, Answer};
-use planning_program::{Progress, Refusal, Run, Task};
+use planning_program::raw::{self, Answer, StepsAnswer};
+use planning_program::{Progress, Refusal, Run, StepsRefusal, Task};
 use requests::words::shown;
-use requests::{of_kind, shown_with_buffer, shown_with_run, Vector};
+use requests::{of_kind, shown_steps_with_run, shown_with_buffer, shown_with_run, Vector};
 use std::path::{Path, PathBuf};
 use std::process::Command;
 
@@ -41,6 +41,22 @@ fn answer_of(result: Result<usize, Refusal>) -> Answer {
         Err(Refusal { question, place }) => (question.into(), place),
     };
     Answer { number, value }
+}
+
+/// The three numbers of what the wrapper gives for a number of steps.
+fn steps_answer_of(result: Result<u16, StepsRefusal>) -> StepsAnswer {
+    match result {
+        Ok(made) => StepsAnswer {
+            number: 0,
+            place: 0,
+            made,
+        },
+        Err(StepsRefusal { refusal, made }) => StepsAnswer {
+            number: refusal.question.into(),
+            place: refusal.place,
+            made,
+        },
+    }
 }
 
 #[test]
@@ -116,7 +132,7 @@ fn writes_with_an_allocated_plan() {
 }
 
 #[test]
-fn steps() {
+fn single_steps() {
     agree(&of_kind("step"), |v| {
         let mut run = v.run();
         let answer = raw::step(&v.task(), &v.other(), &mut run);
@@ -127,6 +143,22 @@ fn steps() {
         let result = Task::check(&task).and_then(|task| run.step(&task, &v.other()));
         let made = result.map(|progress| usize::from(progress == Progress::Stepped));
         shown_with_run(answer_of(made), run.record())
+    });
+}
+
+#[test]
+fn steps() {
+    agree(&of_kind("steps"), |v| {
+        let mut run = v.run();
+        let answer = raw::steps(&v.task(), &v.other(), v.count(), &mut run);
+        shown_steps_with_run(answer, &run)
+    });
+    agree(&of_kind("steps"), |v| {
+        let (task, mut run) = (v.task(), Run::from(v.run()));
+        let result = Task::check(&task)
+            .map_err(|refusal| StepsRefusal { refusal, made: 0 })
+            .and_then(|task| run.steps(&task, &v.other(), v.count()));
+        shown_steps_with_run(steps_answer_of(result), run.record())
     });
 }
 
@@ -163,7 +195,11 @@ fn run_beside(name: &str, task: &Task, program: &[u8], plan: &[u8]) {
         assert_eq!(progress, Ok(Progress::Stepped), "{name}: {run:?}");
     }
     let finish = run;
-    let reached = (finish.case(), finish.steps().into(), finish.is_finished());
+    let reached = (
+        finish.case(),
+        finish.steps_made().into(),
+        finish.is_finished(),
+    );
     assert_eq!(reached, (task.cases(), steps, true), "{name}: {run:?}");
     assert_eq!(run.step(task, program), Ok(Progress::Finished), "{name}");
     assert_eq!(run, finish, "{name}");
@@ -173,7 +209,7 @@ fn run_beside(name: &str, task: &Task, program: &[u8], plan: &[u8]) {
 fn runs_of_the_writes() {
     let mut requests = of_kind("write");
     requests.retain(|v| v.answer().number == 0);
-    assert_eq!(requests.len(), 27);
+    assert_eq!(requests.len(), 3);
     for v in requests {
         let (name, task, program) = (format!("line {}", v.line), v.task(), v.other());
         let task = Task::check(&task).expect("a task that passes");

@@ -7,6 +7,14 @@ pub struct Answer {
     pub value: u32,
 }
 
+/// The answer to a number of steps: 0, or the question and its place; and the steps made in either case.
+#[derive(Clone, Copy, Debug, PartialEq, Eq)]
+pub struct StepsAnswer {
+    pub number: u32,
+    pub place: u32,
+    pub made: u16,
+}
+
 /// The number of a question whose answer is no.
 pub(crate) type Question = u32;
 
@@ -23,6 +31,17 @@ impl From<Result<u32, Refusal>> for Answer {
                 number: refusal.question,
                 value: refusal.place,
             },
+        }
+    }
+}
+
+impl StepsAnswer {
+    pub(crate) fn new(result: Result<(), Refusal>, made: u16) -> Self {
+        let Answer { number, value } = result.map(|()| 0).into();
+        StepsAnswer {
+            number,
+            place: value,
+            made,
         }
     }
 }

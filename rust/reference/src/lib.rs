@@ -13,13 +13,15 @@ mod program;
 mod records;
 mod run;
 mod single_step;
+mod steps;
 mod task;
 mod writer;
 
-pub use answer::Answer;
+pub use answer::{Answer, StepsAnswer};
 pub use checker::check_plan;
 pub use listing::print_check;
 pub use run::Run;
 pub use single_step::step;
+pub use steps::steps;
 pub use task::check_task;
 pub use writer::write_plan;

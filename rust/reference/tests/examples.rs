@@ -1,7 +1,9 @@
-//! The worked examples of the double-click task, and the single step at its step bound.
+//! The worked examples of the double-click task, the single step at its step bound, and numbers of steps.
 //! Buffers are full of a mark, so that every byte kept or filled shows.
 
-use reference::{check_plan, check_task, print_check, step, write_plan, Answer, Run};
+use reference::{
+    check_plan, check_task, print_check, step, steps, write_plan, Answer, Run, StepsAnswer,
+};
 
 const MARK: u8 = 0xa5;
 
@@ -37,6 +39,11 @@ const TASK: DoubleClick = DoubleClick {
 
 const FOUR_STEPS: DoubleClick = DoubleClick {
     step_bound: 4,
+    ..TASK
+};
+
+const MOST_STEPS: DoubleClick = DoubleClick {
+    step_bound: 4096,
     ..TASK
 };
 
@@ -211,4 +218,147 @@ fn step_bound_holds_for_a_single_step() {
     let mut last = open;
     assert_eq!(step(&task, &PROGRAM, &mut last), answer(0, 1));
     assert_eq!((last.steps, last.frames[0]), (5, [0, 1]));
+}
+
+/// A record with one frame, at this line of procedure 0.
+fn open(case: u8, facts: u64, line: u8, steps: u16) -> Run {
+    let mut frames = [[0, 0]; 16];
+    frames[0] = [0, line];
+    Run {
+        facts,
+        steps,
+        case,
+        depth: 1,
+        frames,
+    }
+}
+
+/// The records of the task's run: goto, act and end, then goto and end.
+fn positions() -> [Run; 6] {
+    let finished = Run {
+        depth: 0,
+        ..open(2, 2, 0, 5)
+    };
+    [
+        open(0, 1, 0, 0),
+        open(0, 1, 1, 1),
+        open(0, 2, 2, 2),
+        open(1, 2, 0, 3),
+        open(1, 2, 2, 4),
+        finished,
+    ]
+}
+
+/// A caller who asks for steps.
+struct Caller<'a> {
+    task: &'a [u8],
+    program: &'a [u8],
+    run: Run,
+}
+
+impl Caller<'_> {
+    /// The answer's number, place and steps made, and the record afterwards, are these.
+    fn gets(&mut self, count: u64, [number, place, made]: [u16; 3], after: Run) {
+        let expected = StepsAnswer {
+            number: number.into(),
+            place: place.into(),
+            made,
+        };
+        let answer = steps(self.task, self.program, count, &mut self.run);
+        assert_eq!((answer, self.run), (expected, after), "{count} steps");
+    }
+}
+
+#[test]
+fn steps_stop_at_the_number_or_the_finish() {
+    let positions = positions();
+    for from in 0..=5 {
+        for count in [0, 1, 2, 3, 4, 5, 6, 40, 4096, 4097, u64::MAX] {
+            let made = count.min(5 - from) as u16;
+            let to = from as usize + usize::from(made);
+            let mut caller = Caller {
+                task: &TASK.bytes(),
+                program: &PROGRAM,
+                run: positions[from as usize],
+            };
+            caller.gets(count, [0, 0, made], positions[to]);
+        }
+    }
+}
+
+#[test]
+fn steps_before_a_refusal_stay_made() {
+    let act_end = [1, 0, 0, 4, 0, 0, 0, 0, 0];
+    let goto_call = [2, 1, 1, 3, 0, 0, 4, 0, 0];
+    let goto_goto = [2, 2, 0, 2, 2, 1, 4, 0, 0];
+    let goto_empty = [2, 2, 0, 0, 0, 0, 4, 0, 0];
+    let table = [
+        (FOUR_STEPS, PROGRAM, [14, 4, 4], open(1, 2, 2, 4)),
+        (TASK, act_end, [19, 2, 2], open(1, 2, 0, 2)),
+        (CLASH, PROGRAM, [20, 1, 1], open(0, 1, 1, 1)),
+        (TASK, goto_call, [21, 1, 1], open(0, 1, 1, 1)),
+        (TASK, goto_goto, [22, 2, 2], open(0, 1, 2, 2)),
+        (TASK, goto_empty, [28, 1, 1], open(0, 1, 1, 1)),
+    ];
+    for (task, program, [number, place, made], after) in table {
+        let task = &task.bytes();
+        let mut caller = Caller {
+            task,
+            program: &program,
+            run: positions()[0],
+        };
+        for count in [u64::from(made) + 1, 40, u64::MAX] {
+            caller.run = positions()[0];
+            caller.gets(count, [number, place, made], after);
+            // The place counts the steps of the run, the steps made are those of the call.
+            caller.gets(count, [number, place, 0], after);
+            caller.gets(0, [0, 0, 0], after);
+        }
+        // The good steps alone are not refused.
+        caller.run = positions()[0];
+        caller.gets(made.into(), [0, 0, made], after);
+    }
+}
+
+#[test]
+fn no_more_than_4096_steps_in_a_call() {
+    // Line 0 jumps to itself while fact 1 is false.
+    let never_ends = [2, 0, 1, 4, 0, 0, 0, 0, 0];
+    let after = |steps| open(0, 1, 0, steps);
+    let mut caller = Caller {
+        task: &MOST_STEPS.bytes(),
+        program: &never_ends,
+        run: after(0),
+    };
+    for count in [4096, 4097, 1 << 16, 1 << 32, u64::MAX] {
+        caller.run = after(0);
+        caller.gets(count, [0, 0, 4096], after(4096));
+        caller.gets(0, [0, 0, 0], after(4096));
+        caller.gets(1, [14, 4096, 0], after(4096));
+    }
+    caller.run = after(0);
+    caller.gets(4095, [0, 0, 4095], after(4095));
+    caller.gets(4097, [14, 4096, 1], after(4096));
+}
+
+#[test]
+fn questions_up_to_31_come_before_no_steps() {
+    let task = TASK.bytes();
+    let op_5 = [2, 2, 0, 1, 0, 0, 5, 0, 0];
+    let [start, .., finished] = positions();
+    let impossible = open(0, 1, 0, 6);
+    let (whole, cut, program) = (&task[..], &task[..121], &op_5[..]);
+    let table = [
+        (cut, program, impossible, [1, 118, 0]),
+        (whole, &op_5[..8], impossible, [25, 0, 0]),
+        (whole, program, impossible, [26, 6, 0]),
+        (whole, program, finished, [26, 6, 0]),
+        (whole, program, start, [26, 6, 0]),
+        (whole, &PROGRAM[..], impossible, [31, 0, 0]),
+    ];
+    for (task, program, run, answer) in table {
+        for count in [0, 1, u64::MAX] {
+            Caller { task, program, run }.gets(count, answer, run);
+        }
+    }
 }

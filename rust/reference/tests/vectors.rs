@@ -1,15 +1,15 @@
-//! Runs every request of vectors/base.txt and compares with the agreed answer.
+//! Runs every request of vectors/level-01.txt and compares with the agreed answer.
 //! Its README says how a line is written.
 
-use reference::{check_plan, check_task, print_check, step, write_plan, Answer, Run};
+use reference::{check_plan, check_task, print_check, step, steps, write_plan, Answer, Run};
 use std::collections::BTreeMap;
 use std::fmt::Display;
 
-const BASE: &str = concat!(env!("CARGO_MANIFEST_DIR"), "/../../vectors/base.txt");
+const FILE: &str = concat!(env!("CARGO_MANIFEST_DIR"), "/../../vectors/level-01.txt");
 
 #[test]
 fn all_vectors_agree() {
-    let text = std::fs::read_to_string(BASE).expect("vectors/base.txt is there");
+    let text = std::fs::read_to_string(FILE).expect("vectors/level-01.txt is there");
     let lines: Vec<&str> = text.lines().collect();
     let mut agreed: BTreeMap<&str, usize> = BTreeMap::new();
     let mut differences = Vec::new();
@@ -30,7 +30,7 @@ fn all_vectors_agree() {
         println!("{kind}: {count} agreed");
     }
     assert!(differences.is_empty(), "{}", differences.join("\n"));
-    for kind in ["task", "check", "write", "step", "print"] {
+    for kind in ["task", "check", "write", "step", "steps", "print"] {
         assert!(agreed.contains_key(kind), "no {kind} line");
     }
 }
@@ -51,9 +51,16 @@ fn answer(request: &str) -> String {
             format!("{} {}", shown(answer), hex(&plan))
         }
         "step" => {
-            let mut run = run(request);
+            let mut run = run(request, 3);
             let answer = step(&task, &file(2), &mut run);
             format!("{} {}", shown(answer), shown_run(&run))
+        }
+        "steps" => {
+            let count = word(request, 3).parse().expect("a count");
+            let mut run = run(request, 4);
+            let answer = steps(&task, &file(2), count, &mut run);
+            let numbers = format!("{} {} {}", answer.number, answer.place, answer.made);
+            format!("{numbers} {}", shown_run(&run))
         }
         "print" => print_check(&task, &file(2)).replace('\n', "|"),
         other => panic!("unknown request {other}"),
@@ -68,11 +75,11 @@ fn shown(answer: Answer) -> String {
     format!("{} {}", answer.number, answer.value)
 }
 
-/// Case, facts, steps, depth, then procedure and line of each frame.
-fn run(request: &str) -> Run {
+/// From this word on: case, facts, steps, depth, then procedure and line of each frame.
+fn run(request: &str, first: usize) -> Run {
     let numbers: Vec<u64> = request
         .split(' ')
-        .skip(3)
+        .skip(first)
         .map(|number| number.parse().expect("a decimal number"))
         .collect();
     assert_eq!(numbers.len(), 36, "a run record");

@@ -26,6 +26,13 @@ pub fn input(steps: u32) -> Input {
     Input::written(task(steps), vec![lines], steps, &entries)
 }
 
+/// The shortest of these runs, on which steps are measured as well.
+pub fn shortest() -> Input {
+    let mut input = input(64);
+    input.entries.extend([Entry::Step, Entry::Steps40]);
+    input
+}
+
 fn task(steps: u32) -> TaskBuilder {
     let [low, high] = [counter("low", LOW_BITS), counter("high", HIGH_BITS)];
     let [low_start, high_start] = starts(steps);

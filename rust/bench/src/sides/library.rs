@@ -1,7 +1,7 @@
 //! The proved library's entries, each behind a call that is not inlined.
 
 use planning_program::raw;
-use reference::{Answer, Run};
+use reference::{Answer, Run, StepsAnswer};
 use std::mem::offset_of;
 
 #[inline(never)]
@@ -21,10 +21,28 @@ pub fn write_plan(task: &[u8], program: &[u8], plan: &mut [u8]) -> Answer {
 
 #[inline(never)]
 pub fn step(task: &[u8], program: &[u8], run: &mut Run) -> Answer {
+    answer(raw::step(task, program, record(run)))
+}
+
+#[inline(never)]
+pub fn steps(task: &[u8], program: &[u8], count: u64, run: &mut Run) -> StepsAnswer {
+    let raw::StepsAnswer {
+        number,
+        place,
+        made,
+    } = raw::steps(task, program, count, record(run));
+    StepsAnswer {
+        number,
+        place,
+        made,
+    }
+}
+
+/// The same record in the library's type.
+fn record(run: &mut Run) -> &mut raw::Run {
     let run: *mut Run = run;
-    // SAFETY: the record is borrowed for this call alone, and both types have the same fields at the same places, as is asserted below.
-    let run = unsafe { &mut *run.cast::<raw::Run>() };
-    answer(raw::step(task, program, run))
+    // SAFETY: the record stays borrowed, and both types have the same fields at the same places, as is asserted below.
+    unsafe { &mut *run.cast::<raw::Run>() }
 }
 
 const _: () = assert!(

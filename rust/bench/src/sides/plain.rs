@@ -1,6 +1,6 @@
 //! The plain Rust entries, each behind a call that is not inlined, so that none is fitted to an input.
 
-use reference::{Answer, Run};
+use reference::{Answer, Run, StepsAnswer};
 
 #[inline(never)]
 pub fn check_task(task: &[u8]) -> Answer {
@@ -20,4 +20,9 @@ pub fn write_plan(task: &[u8], program: &[u8], plan: &mut [u8]) -> Answer {
 #[inline(never)]
 pub fn step(task: &[u8], program: &[u8], run: &mut Run) -> Answer {
     reference::step(task, program, run)
+}
+
+#[inline(never)]
+pub fn steps(task: &[u8], program: &[u8], count: u64, run: &mut Run) -> StepsAnswer {
+    reference::steps(task, program, count, run)
 }

@@ -59,6 +59,15 @@ impl Caller {
         self.comparison.ask(Request::Step { task, program, run });
     }
 
+    pub fn steps(&mut self, task: &[u8], program: &[u8], count: u64, run: Run) {
+        self.comparison.ask(Request::Steps {
+            task,
+            program,
+            count,
+            run,
+        });
+    }
+
     fn buffer(&mut self, needed: usize) -> Vec<u8> {
         let len = match self.random.below(16) {
             0 => 0,

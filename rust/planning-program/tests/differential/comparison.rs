@@ -1,7 +1,9 @@
-//! Puts requests to the library and to the reference, and counts the answers on which they agree.
+//! Puts requests to the library and to the reference, and counts the answers on which they agree. A number of steps is put to the library's
+//! single step too.
 
 use super::entries::{LIBRARY, REFERENCE};
 use super::request::{Outcome, Request};
+use super::single_steps::by_single_steps;
 use super::tally::Tally;
 
 pub struct Comparison {
@@ -30,7 +32,20 @@ impl Comparison {
             library == reference,
             "they differ\nlibrary   = {library}\nreference = {reference}"
         );
-        self.tally.count(request.kind(), library.answer.number);
+        if let Request::Steps {
+            task,
+            program,
+            count,
+            run,
+        } = request
+        {
+            let single = by_single_steps(task, program, count, run);
+            assert!(
+                library == single,
+                "they differ\nlibrary      = {library}\nsingle steps = {single}"
+            );
+        }
+        self.tally.count(request.kind(), &library);
         library
     }
 }

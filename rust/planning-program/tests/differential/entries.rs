@@ -1,6 +1,6 @@
-//! The four entries, of the proved library and of the reference, with the same types.
+//! The five entries, of the proved library and of the reference, with the same types.
 
-use planning_program::raw::{self, Answer, Run};
+use planning_program::raw::{self, Answer, Run, StepsAnswer};
 
 /// An entry over a task, another file and a buffer that it may fill.
 pub type FillEntry = fn(&[u8], &[u8], &mut [u8]) -> Answer;
@@ -10,6 +10,7 @@ pub struct Entries {
     pub check_plan: FillEntry,
     pub write_plan: FillEntry,
     pub step: fn(&[u8], &[u8], &mut Run) -> Answer,
+    pub steps: fn(&[u8], &[u8], u64, &mut Run) -> StepsAnswer,
 }
 
 pub const LIBRARY: Entries = Entries {
@@ -17,13 +18,15 @@ pub const LIBRARY: Entries = Entries {
     check_plan: raw::check_plan,
     write_plan: raw::write_plan,
     step: raw::step,
+    steps: raw::steps,
 };
 
 pub const REFERENCE: Entries = Entries {
     check_task: |task| answer(reference::check_task(task)),
     check_plan: |task, plan, buffer| answer(reference::check_plan(task, plan, buffer)),
     write_plan: |task, program, buffer| answer(reference::write_plan(task, program, buffer)),
-    step: reference_step,
+    step: |task, program, run| answer(on_own(run, |own| reference::step(task, program, own))),
+    steps: reference_steps,
 };
 
 fn answer(answer: reference::Answer) -> Answer {
@@ -33,7 +36,17 @@ fn answer(answer: reference::Answer) -> Answer {
     }
 }
 
-fn reference_step(task: &[u8], program: &[u8], run: &mut Run) -> Answer {
+fn reference_steps(task: &[u8], program: &[u8], count: u64, run: &mut Run) -> StepsAnswer {
+    let answer = on_own(run, |own| reference::steps(task, program, count, own));
+    StepsAnswer {
+        number: answer.number,
+        place: answer.place,
+        made: answer.made,
+    }
+}
+
+/// Lends the reference a record of its own type, and takes over what it has afterwards.
+fn on_own<T>(run: &mut Run, entry: impl FnOnce(&mut reference::Run) -> T) -> T {
     let mut own = reference::Run {
         facts: run.facts,
         steps: run.steps,
@@ -41,7 +54,7 @@ fn reference_step(task: &[u8], program: &[u8], run: &mut Run) -> Answer {
         depth: run.depth,
         frames: run.frames,
     };
-    let answer = answer(reference::step(task, program, &mut own));
+    let answer = entry(&mut own);
     *run = Run {
         facts: own.facts,
         steps: own.steps,

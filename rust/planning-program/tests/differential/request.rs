@@ -2,7 +2,7 @@
 
 use std::fmt;
 
-use planning_program::raw::{Answer, Run};
+use planning_program::raw::{Answer, Run, StepsAnswer};
 
 use super::entries::{Entries, FillEntry};
 use super::words::{shown, word, words_of};
@@ -27,15 +27,24 @@ pub enum Request<'a> {
         program: &'a [u8],
         run: Run,
     },
+    Steps {
+        task: &'a [u8],
+        program: &'a [u8],
+        count: u64,
+        run: Run,
+    },
 }
 
 /// The names of the kinds of requests, in the order of `Request::kind`.
-pub const KINDS: [&str; 4] = ["task", "check", "write", "step"];
+pub const KINDS: [&str; 5] = ["task", "check", "write", "step", "steps"];
 
 /// An answer, and all that was lent for writing as it is afterwards.
 #[derive(PartialEq)]
 pub struct Outcome {
+    /// Of a number of steps, the number and the place.
     pub answer: Answer,
+    /// Of a number of steps, how many were made.
+    pub made: Option<u16>,
     pub lent: Lent,
 }
 
@@ -53,6 +62,7 @@ impl Request<'_> {
             Request::Check { .. } => 1,
             Request::Write { .. } => 2,
             Request::Step { .. } => 3,
+            Request::Steps { .. } => 4,
         }
     }
 
@@ -60,6 +70,7 @@ impl Request<'_> {
         match *self {
             Request::Task { task } => Outcome {
                 answer: (entries.check_task)(task),
+                made: None,
                 lent: Lent::Nothing,
             },
             Request::Check { task, plan, buffer } => filled(entries.check_plan, task, plan, buffer),
@@ -74,8 +85,32 @@ impl Request<'_> {
                 mut run,
             } => Outcome {
                 answer: (entries.step)(task, program, &mut run),
+                made: None,
                 lent: Lent::Record(run),
             },
+            Request::Steps {
+                task,
+                program,
+                count,
+                mut run,
+            } => {
+                let answer = (entries.steps)(task, program, count, &mut run);
+                Outcome::of_steps(answer, run)
+            }
+        }
+    }
+}
+
+impl Outcome {
+    /// Of a number of steps, with the record afterwards.
+    pub fn of_steps(answer: StepsAnswer, run: Run) -> Self {
+        Outcome {
+            answer: Answer {
+                number: answer.number,
+                value: answer.place,
+            },
+            made: Some(answer.made),
+            lent: Lent::Record(run),
         }
     }
 }
@@ -85,6 +120,7 @@ fn filled(entry: FillEntry, task: &[u8], other: &[u8], buffer: &[u8]) -> Outcome
     let answer = entry(task, other, &mut buffer);
     Outcome {
         answer,
+        made: None,
         lent: Lent::Buffer(buffer),
     }
 }
@@ -106,6 +142,12 @@ impl fmt::Display for Request<'_> {
             Request::Step { task, program, run } => {
                 [word(task), word(program), words_of(&run)].join(" ")
             }
+            Request::Steps {
+                task,
+                program,
+                count,
+                run,
+            } => [word(task), word(program), count.to_string(), words_of(&run)].join(" "),
         };
         write!(f, "{} {words}", KINDS[self.kind()])
     }
@@ -114,6 +156,9 @@ impl fmt::Display for Request<'_> {
 impl fmt::Display for Outcome {
     fn fmt(&self, f: &mut fmt::Formatter) -> fmt::Result {
         write!(f, "{}", shown(self.answer))?;
+        if let Some(made) = self.made {
+            write!(f, " {made}")?;
+        }
         match &self.lent {
             Lent::Nothing => Ok(()),
             Lent::Buffer(bytes) => write!(f, " {}", word(bytes)),

@@ -1,8 +1,11 @@
 //! One round: a task with a program and its plan, and requests about these, sound and damaged.
 
+use planning_program::raw::Run;
+
 use super::caller::Caller;
 use super::changes::changed;
 use super::positions::{break_one, possible};
+use super::random::Random;
 use super::samples::{full_size, sample, Sample};
 use super::task::record;
 use super::{plan_damage, program_damage, task_damage};
@@ -16,13 +19,14 @@ pub fn round(caller: &mut Caller) {
     caller.check_task(&sample.file);
     let (draft_task, draft_program) = &sample.draft;
     write_and_check(caller, &sample, draft_task, draft_program);
+    ask_steps_from(caller, &sample, draft_task, draft_program, sample.run[0]);
     let plan = write_and_check(caller, &sample, &sample.file, &sample.program);
     let plan = plan.unwrap_or(record(5, &[]));
     for _ in 0..8 {
         ask_damaged_task(caller, &sample, &plan);
         ask_damaged_program(caller, &sample);
         ask_damaged_plan(caller, &sample, &plan);
-        ask_step(caller, &sample, &sample.file, &sample.program);
+        ask_steps(caller, &sample, &sample.file, &sample.program);
     }
     for _ in 0..4 {
         ask_changed_task(caller, &sample, &plan);
@@ -37,7 +41,7 @@ fn ask_damaged_task(caller: &mut Caller, sample: &Sample, plan: &[u8]) {
         1 => {
             write_and_check(caller, sample, &task, &sample.program);
         }
-        2 => ask_step(caller, sample, &task, &sample.program),
+        2 => ask_steps(caller, sample, &task, &sample.program),
         _ => {}
     }
 }
@@ -46,7 +50,7 @@ fn ask_damaged_program(caller: &mut Caller, sample: &Sample) {
     let program = program_damage::damaged(&mut caller.random, &sample.task, &sample.program);
     write_and_check(caller, sample, &sample.file, &program);
     if caller.random.one_in(4) {
-        ask_step(caller, sample, &sample.file, &program);
+        ask_steps(caller, sample, &sample.file, &program);
     }
 }
 
@@ -61,12 +65,19 @@ fn ask_changed_task(caller: &mut Caller, sample: &Sample, plan: &[u8]) {
     caller.check_task(&task);
     caller.check_plan(&task, plan, sample.program.len());
     write_and_check(caller, sample, &task, &sample.program);
-    ask_step(caller, sample, &task, &sample.program);
+    ask_steps(caller, sample, &task, &sample.program);
 }
 
-/// A single step from a position of the sample's run or another, one in four of them not possible.
-fn ask_step(caller: &mut Caller, sample: &Sample, task: &[u8], program: &[u8]) {
-    let random = &mut caller.random;
+/// A single step and a number of steps, each from a position of its own.
+fn ask_steps(caller: &mut Caller, sample: &Sample, task: &[u8], program: &[u8]) {
+    let run = position(&mut caller.random, sample);
+    caller.step(task, program, run);
+    let run = position(&mut caller.random, sample);
+    ask_steps_from(caller, sample, task, program, run);
+}
+
+/// A position of the sample's run or another, one in four of them not possible.
+fn position(random: &mut Random, sample: &Sample) -> Run {
     let mut run = match random.below(8) {
         0 => sample.run[sample.run.len() - 1],
         1..=4 => random.pick(&sample.run),
@@ -75,7 +86,25 @@ fn ask_step(caller: &mut Caller, sample: &Sample, task: &[u8], program: &[u8]) {
     if random.one_in(4) {
         break_one(random, &sample.task, &mut run);
     }
-    caller.step(task, program, run);
+    run
+}
+
+fn ask_steps_from(caller: &mut Caller, sample: &Sample, task: &[u8], program: &[u8], run: Run) {
+    let count = count(&mut caller.random, sample, &run);
+    caller.steps(task, program, count, run);
+}
+
+/// How many steps to ask for: a few, forty, about as many as are left to the finish or to the bound, or about the most in a call and more.
+fn count(random: &mut Random, sample: &Sample, run: &Run) -> u64 {
+    let finish = sample.run[sample.run.len() - 1].steps;
+    let left = random.pick(&[finish, sample.task.bounds.steps]);
+    let left = u64::from(left.saturating_sub(run.steps));
+    match random.below(4) {
+        0 => random.pick(&[0, 1, 2]),
+        1 => random.below(12) as u64,
+        2 => random.pick(&[left.saturating_sub(1), left, left + 1]),
+        _ => random.pick(&[40, 4095, 4096, 4097, 1 << 16, 1 << 32, u64::MAX]),
+    }
 }
 
 /// The plan that is written, if one is; it is checked then.

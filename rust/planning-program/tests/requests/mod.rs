@@ -1,8 +1,8 @@
-//! The requests of vectors/base.txt and their agreed answers; vectors/README.md says how they are written.
+//! The requests of vectors/level-01.txt and their agreed answers; vectors/README.md says how they are written.
 
 pub mod words;
 
-use planning_program::raw::{Answer, Run};
+use planning_program::raw::{Answer, Run, StepsAnswer};
 use words::{shown, word, words_of};
 
 /// A request and its agreed answer.
@@ -16,17 +16,18 @@ pub struct Vector {
 }
 
 /// The kinds of request, and how many the file has of each.
-pub const COUNTS: [(&str, usize); 5] = [
-    ("task", 108),
-    ("check", 243),
-    ("write", 198),
-    ("step", 197),
-    ("print", 232),
+pub const COUNTS: [(&str, usize); 6] = [
+    ("task", 22),
+    ("check", 51),
+    ("write", 41),
+    ("step", 42),
+    ("steps", 129),
+    ("print", 52),
 ];
 
 /// All requests of the file.
 pub fn all() -> Vec<Vector> {
-    let text = include_str!("../../../../vectors/base.txt");
+    let text = include_str!("../../../../vectors/level-01.txt");
     let lines: Vec<&str> = text.lines().collect();
     let vector = |(k, pair): (usize, &[&'static str])| {
         let line = 2 * k + 1;
@@ -73,7 +74,7 @@ impl Vector {
         bytes(self.words[1])
     }
 
-    /// The plan of a check or print request, the program of a write or step request.
+    /// The plan of a check or print request, the program of any other.
     pub fn other(&self) -> Vec<u8> {
         bytes(self.words[2])
     }
@@ -83,15 +84,21 @@ impl Vector {
         bytes(self.words[3])
     }
 
-    /// The record lent by a step request.
+    /// The number of steps that a steps request asks for.
+    pub fn count(&self) -> u64 {
+        number(self.words[3])
+    }
+
+    /// The record lent by a step or steps request: its last 36 words.
     pub fn run(&self) -> Run {
-        let word = |k: usize| self.words[k];
+        let words = self.words.last_chunk::<36>().expect("a record");
+        let frame = |k: usize| [number(words[4 + 2 * k]), number(words[5 + 2 * k])];
         Run {
-            case: number(word(3)),
-            facts: number(word(4)),
-            steps: number(word(5)),
-            depth: number(word(6)),
-            frames: std::array::from_fn(|k| [number(word(7 + 2 * k)), number(word(8 + 2 * k))]),
+            case: number(words[0]),
+            facts: number(words[1]),
+            steps: number(words[2]),
+            depth: number(words[3]),
+            frames: std::array::from_fn(frame),
         }
     }
 
@@ -114,4 +121,14 @@ pub fn shown_with_buffer(answer: Answer, buffer: &[u8]) -> String {
 /// An answer and the record afterwards.
 pub fn shown_with_run(answer: Answer, run: &Run) -> String {
     format!("{} {}", shown(answer), words_of(run))
+}
+
+/// The answer to a number of steps, and the record afterwards.
+pub fn shown_steps_with_run(answer: StepsAnswer, run: &Run) -> String {
+    let StepsAnswer {
+        number,
+        place,
+        made,
+    } = answer;
+    format!("{number} {place} {made} {}", words_of(run))
 }

@@ -18,7 +18,7 @@ pub fn run_beside<W: World>(name: &str, mut worlds: Vec<W>) -> Vec<W> {
     for (world, case) in worlds.iter_mut().zip(model.names().cases.iter()) {
         let mut stack = vec![[0, 0]];
         while !stack.is_empty() {
-            let at = format!("{name}, case `{case}`, step {}", run.steps());
+            let at = format!("{name}, case `{case}`, step {}", run.steps_made());
             let facts = model.names().facts.iter();
             let holding: Vec<&str> = facts.filter(|fact| world.holds(fact)).collect();
             assert_eq!(model.names().facts_in(run.facts()), holding, "{at}");
