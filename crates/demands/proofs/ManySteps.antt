@@ -8,53 +8,24 @@ use mathlib.Core.Bool.{Bool, true, false}
 use mathlib.Core.List.{List}
 use native.Mathlib.Omega.{arith}
 use lib.ListN.{length}
-use lib.Dec.{eqb}
-use Rattle.records.specs.Loop.{Turn, stop, go}
-use Rattle.records.proofs.Laws.Tests.{cond-either}
 use Rattle.task.specs.Program.{programVerdict}
 use Rattle.task.specs.Reading.{readTask}
 use Rattle.task.specs.declared.index.Index.{Index}
 use Rattle.task.specs.declared.reading.Reading.{Reading}
 use Rattle.task.specs.declared.verdict.Verdict.{Verdict}
 use Rattle.task.specs.declared.verdict.Verdict.the-variants.{Accepted, Refused}
-use Rattle.step.specs.Perform.{unchanged, answered}
+use Rattle.step.specs.Perform.{unchanged}
 use Rattle.step.specs.Possible.{possible}
 use Rattle.step.specs.Questions.{POSSIBLE}
-use Rattle.step.specs.Single.{following, stepOnce, onReading, singleStep}
+use Rattle.step.specs.Single.{singleStep}
 use Rattle.step.specs.declared.perform.Stepped.{Stepped}
 use Rattle.step.specs.declared.position.Position.{Position}
-use Rattle.step.proofs.Laws.Single.{step-impossible, task-refused, program-refused, both-passed, single-possible}
+use Rattle.step.proofs.Laws.Single.{step-impossible, task-refused, program-refused, both-passed, Answers, refuses, stays, makes, single-answers, single-possible}
 use Rattle.steps.specs.Many.{capped, takenTo, stepsFrom, manySteps}
 use Rattle.steps.specs.declared.many.StepsTaken.{StepsTaken}
 use Rattle.steps.proofs.Laws.Many.{few-asked, many-task-refused, many-program-refused, BothPass, many-impossible, many-runs}
 use Rattle.steps.proofs.Laws.Running.{steps-refused, steps-finished, steps-onward}
 use Rattle.demands.specs.ManySteps.{counting, later, CallsJoin, madeBy, asCall, repeated, CallsAreSteps}
-
--- the answers that a single step has
-data Kind (s : Position) : Stepped → Type 0 where
-  refuses : (question place : ℕ) → Kind s (unchanged s (Refused question place))
-  stays : Kind s (unchanged s (Accepted 0))
-  moves : (u : Position) → Kind s (record { verdict = Accepted 1; position = u })
-
-module _ (s : Position) where
-  answered-kind : (turn : Turn Position ℕ) → Kind s (answered s turn)
-  unfolding answered
-  answered-kind (stop question) = refuses question (s .steps)
-  answered-kind (go next) = moves next
-
-  following-kind : (v : Verdict) (rest : Stepped) → Kind s rest → Kind s (following s v rest)
-  unfolding following
-  following-kind (Accepted value) rest k = k
-  following-kind (Refused question place) rest k = refuses question place
-
-  once-kind : (bytes : List ℕ) (i : Index) (offsets program : List ℕ) → Kind s (stepOnce bytes i offsets program s)
-  unfolding stepOnce
-  once-kind bytes i offsets program =
-      cond-either (Kind s) (possible i s) _ _ (λ y. cond-either (Kind s) (eqb (s .depth) 0) _ _ (λ z. stays) (λ z. answered-kind _)) (λ z. refuses POSSIBLE 0)
-
-  single-kind : (bytes program : List ℕ) → Kind s (singleStep bytes program s)
-  unfolding singleStep onReading
-  single-kind bytes program = following-kind _ _ (following-kind _ _ (once-kind bytes _ _ program))
 
 module _ (bytes program : List ℕ) where
   -- a single step that leaves the record alone ends a call, with this verdict by the steps made before
@@ -71,9 +42,9 @@ module _ (bytes program : List ℕ) where
   -- a single step does one or the other
   data Next (s : Position) : Type 0 where
     stops : Stops s → Next s
-    makes : (u : Position) → Makes s u → Next s
+    goes : (u : Position) → Makes s u → Next s
 
-  next-of : (s : Position) (r : Stepped) → Kind s r → r ≡ singleStep bytes program s → Next s
+  next-of : (s : Position) (r : Stepped) → Answers bytes program s r → r ≡ singleStep bytes program s → Next s
   unfolding unchanged asCall madeBy counting
   next-of s r (refuses question place) e =
       stops (record {
@@ -84,10 +55,10 @@ module _ (bytes program : List ℕ) where
       })
   next-of s r stays e =
       stops (record { verdict = Accepted; counts = λ c made. refl; ends = λ n made. steps-finished bytes program n made s e; single = ap asCall e })
-  next-of s r (moves u) e = makes u e
+  next-of s r (makes u m) e = goes u e
 
   next : (s : Position) → Next s
-  next s = next-of s _ (single-kind s bytes program) refl
+  next s = next-of s _ (single-answers bytes program s) refl
 
   -- what holds of so many steps from a position, after so many that are made, is shown by what the first of them does
   module _ (P : ℕ → ℕ → Position → Type 0) (none : (made : ℕ) (s : Position) → P 0 made s)
@@ -95,7 +66,7 @@ module _ (bytes program : List ℕ) where
       (goes-on : (n made : ℕ) (s u : Position) → Makes s u → P n (made + 1) u → P (suc n) made s) where
     by-next : (n made : ℕ) (s : Position) → ((u : Position) → P n (made + 1) u) → Next s → P (suc n) made s
     by-next n made s ih (stops x) = stopped n made s x
-    by-next n made s ih (makes u e) = goes-on n made s u e (ih u)
+    by-next n made s ih (goes u e) = goes-on n made s u e (ih u)
 
     by-steps : (n made : ℕ) (s : Position) → P n made s
     by-steps zero made s = none made s
@@ -143,7 +114,7 @@ module _ (bytes program : List ℕ) where
   one-step : (s : Position) → Next s → stepsFrom bytes program 1 0 s ≡ asCall (singleStep bytes program s)
   unfolding stepsFrom asCall madeBy
   one-step s (stops x) = sym (x .ends 0 0) ∙ x .single
-  one-step s (makes u e) = sym (steps-onward bytes program 0 0 s u e) ∙ ap asCall e
+  one-step s (goes u e) = sym (steps-onward bytes program 0 0 s u e) ∙ ap asCall e
 
   one-call : (s : Position) → Entry s → manySteps bytes program 1 s ≡ asCall (singleStep bytes program s)
   unfolding unchanged asCall madeBy capped
@@ -191,15 +162,15 @@ module _ (bytes program : List ℕ) where
       ∙ ih
       ∙ ap (later c) (steps-onward bytes program k made s u e))
 
-  -- where j steps, all made, lead to
-  record Leads (j made : ℕ) (s : Position) : Type 0 where
+  -- j steps are all made, and the rest goes on from where they led to
+  record GoesOn (j made : ℕ) (s : Position) : Type 0 where
     rest : (k : ℕ) → stepsFrom bytes program (j + k) made s ≡ stepsFrom bytes program k (made + j) (stepsFrom bytes program j made s .position)
     possible : possible i s ≡ true → possible i (stepsFrom bytes program j made s .position) ≡ true
 
-  leads-on : (j made : ℕ) (s u : Position) → length (s .frames) ≡ 16 → Makes s u
-      → (length (u .frames) ≡ 16 → stepsFrom bytes program j (made + 1) u .answer .made ≡ made + 1 + j → Leads j (made + 1) u)
-      → stepsFrom bytes program (suc j) made s .answer .made ≡ made + suc j → Leads (suc j) made s
-  leads-on j made s u size e ih f =
+  next-goes-on : (j made : ℕ) (s u : Position) → length (s .frames) ≡ 16 → Makes s u
+      → (length (u .frames) ≡ 16 → stepsFrom bytes program j (made + 1) u .answer .made ≡ made + 1 + j → GoesOn j (made + 1) u)
+      → stepsFrom bytes program (suc j) made s .answer .made ≡ made + suc j → GoesOn (suc j) made s
+  next-goes-on j made s u size e ih f =
       let there : singleStep bytes program s .position ≡ u = sym (ap (λ (x : Stepped). x .position) e) in
       let kept = single-possible bytes program s size (sym (ap (λ (x : Stepped). x .verdict) e)) in
       let on = steps-onward bytes program j made s u e in
@@ -215,16 +186,16 @@ module _ (bytes program : List ℕ) where
         possible = λ h. rw (← on) (next .possible (rw there at (kept .0)));
       }
 
-  leads : (j made : ℕ) (s : Position) → length (s .frames) ≡ 16 → stepsFrom bytes program j made s .answer .made ≡ made + j → Leads j made s
+  all-go-on : (j made : ℕ) (s : Position) → length (s .frames) ≡ 16 → stepsFrom bytes program j made s .answer .made ≡ made + j → GoesOn j made s
   unfolding stepsFrom takenTo
-  leads =
-      by-steps (λ j made s. length (s .frames) ≡ 16 → stepsFrom bytes program j made s .answer .made ≡ made + j → Leads j made s)
+  all-go-on =
+      by-steps (λ j made s. length (s .frames) ≡ 16 → stepsFrom bytes program j made s .answer .made ≡ made + j → GoesOn j made s)
       (λ made s size f.
       let same : made + 0 ≡ made = omega arith in
       record { rest = λ k. let all : 0 + k ≡ k = omega arith in rw (same, all) refl; possible = λ h. h })
       -- a call that stops with so many steps made has not made more
       (λ j made s x size f. let same : made ≡ made + suc j = ap (λ (a : StepsTaken). a .answer .made) (x .ends j made) ∙ f in absurd (omega (arith, same)))
-      (λ j made s u e ih size f. leads-on j made s u size e ih f)
+      (λ j made s u e ih size f. next-goes-on j made s u size e ih f)
 
   module _ (j k : ℕ) (s : Position) (size : length (s .frames) ≡ 16) (l : j + k ≤ 4096) (f : manySteps bytes program j s .answer .made ≡ j) where
     -- the second call, from where the first led to
@@ -241,7 +212,7 @@ module _ (bytes program : List ℕ) where
         let all : (u : Position) → possible i u ≡ true → (n : ℕ) → n ≤ 4096 → stepsFrom bytes program n 0 u ≡ manySteps bytes program n u =
         λ u w n m. ap (λ (c : ℕ). stepsFrom bytes program c 0 u) (few-asked n m) ∙ e u w n in
         let first = all s y j (omega (arith, l)) in
-        let to = leads j 0 s size (ap (λ (x : StepsTaken). x .answer .made) first ∙ f ∙ omega arith) in
+        let to = all-go-on j 0 s size (ap (λ (x : StepsTaken). x .answer .made) first ∙ f ∙ omega arith) in
         let u = stepsFrom bytes program j 0 s .position in
         let same : 0 + j ≡ j + 0 = omega arith in
         sym (all s y (j + k) l)

@@ -24,7 +24,7 @@ use Rattle.step.specs.declared.position.Position.{Position}
 use Rattle.step.proofs.Laws.Head.{starting-stands}
 use Rattle.step.proofs.Laws.Kept.{starting-possible}
 use Rattle.step.proofs.Laws.Possible.{parts, case-open}
-use Rattle.step.proofs.Laws.Ready.{passed-held}
+use Rattle.step.proofs.Laws.Ready.{passed-held, possible-depth}
 use Rattle.checker.specs.Answer.{Result, refused}
 use Rattle.checker.specs.Check.{State, onMove, begin, closeTurn, turnOf, follow}
 use Rattle.checker.specs.Outcome.{StepReady, ReadyAt, HasRoom, state, lineTurn, readTurn, followedBy}
@@ -32,7 +32,7 @@ use Rattle.checker.specs.Plan.{instructionOf}
 use Rattle.checker.specs.declared.check.Read.{Read}
 use Rattle.checker.specs.declared.check.Read.the-variants.{Stopped, Closing, Ready}
 use Rattle.checker.specs.declared.plan.Step.{Step}
-use Rattle.checker.proofs.Laws.Stepping.{possible-depth, head-fits, step-stands}
+use Rattle.checker.proofs.Laws.Stepping.{head-fits, step-stands}
 use Rattle.checker.proofs.Laws.Turns.{Standing, turn-stands, falls, from, from-begin, from-goes, from-stops}
 
 -- where the loop stands; the last two, of the numbers that its indices stay below
@@ -71,7 +71,7 @@ module _ (bytes : List ℕ) (i : Index) (offsets : List ℕ) (presets : List ℕ
         rest = rest;
         written = written;
         room = room;
-        deep = omega (arith, st .depth, possible-depth i bounded s p);
+        deep = omega (arith, st .depth, possible-depth i s bounded (p .0));
         above = λ c. omega (arith, st .depth, case-open i s (parts i s (p .0) .depth) (omega (arith, st .case, c)));
       }
 

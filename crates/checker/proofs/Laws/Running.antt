@@ -37,14 +37,14 @@ use Rattle.step.proofs.Laws.Head.{starting-stands}
 use Rattle.step.proofs.Laws.Kept.{top-possible, run-possible, starting-possible}
 use Rattle.step.proofs.Laws.Moved.{asked-no, asked-moves, asked-room}
 use Rattle.step.proofs.Laws.Possible.{parts, case-open}
-use Rattle.step.proofs.Laws.Ready.{passed-held}
+use Rattle.step.proofs.Laws.Ready.{passed-held, possible-depth}
 use Rattle.checker.specs.Answer.{Answer, accepted}
 use Rattle.checker.specs.Outcome.{RunsOf}
 use Rattle.checker.specs.Plan.{closing}
 use Rattle.checker.specs.Trace.{Spelled, recordsAfter}
 use Rattle.checker.specs.Write.{run, onFinish}
 use Rattle.checker.proofs.Laws.Answer.{size-most}
-use Rattle.checker.proofs.Laws.Stepping.{allowed-known, possible-depth, head-fits, step-stands}
+use Rattle.checker.proofs.Laws.Stepping.{allowed-known, head-fits, step-stands}
 use Rattle.checker.proofs.Laws.Trace.{traced, byteOf, traceOn, trace-begins, trace-ends, trace-stops, trace-goes, trace-spelled, spelled-none}
 use Rattle.checker.proofs.Laws.Turns.{Standing, read-passed}
 use Rattle.checker.proofs.Laws.Write.{runFrom}
@@ -79,7 +79,7 @@ module _ (bytes : List ℕ) (t : Task) (program : List ℕ) (of : RunsOf bytes t
   most = ranges (i .bounds) (passes .bounded) .steps .1
 
   deep : (h : Head) (callers : List Frame) (s : Position) → Stands h callers s → Standing i s → h .depth ≤ 16
-  deep h callers s st p = omega (arith, st .depth, possible-depth i (runs-held .task) s p)
+  deep h callers s st p = omega (arith, st .depth, possible-depth i s (runs-held .task) (p .0))
 
   framed : (h : Head) (callers : List Frame) (s : Position) → Stands h callers s → Standing i s → h .case < i .cases → 0 < h .depth
   framed h callers s st p c = omega (arith, st .depth, case-open i s (parts i s (p .0) .depth) (omega (arith, st .case, c)))

@@ -6,7 +6,6 @@ use Prim.Native.Nat.{ℕ, _+_, _-_, _≤_, _<_}
 use mathlib.Core.Path.{_≡_, refl}
 use mathlib.Core.Bool.{Bool, true, false, cond}
 use mathlib.Core.List.{List}
-use native.Mathlib.Decide.{ℕ-discrete}
 use native.Mathlib.Omega.{arith}
 use lib.Dec.{ltb}
 use lib.ListN.{length, getD, set}
@@ -28,7 +27,8 @@ use Rattle.step.specs.declared.head.Head.{Head}
 use Rattle.step.specs.declared.position.Frame.{Frame}
 use Rattle.step.specs.declared.position.Position.{Position}
 use Rattle.step.proofs.Laws.Head.{noted-stands, moved-stands}
-use Rattle.step.proofs.Laws.Possible.{parts, case-open, depth-open}
+use Rattle.step.proofs.Laws.Possible.{parts, case-open}
+use Rattle.step.proofs.Laws.Ready.{possible-depth}
 use Rattle.checker.proofs.Laws.Turns.{Standing}
 
 -- a step counts one
@@ -60,14 +60,6 @@ pub allowed-known : (i : Index) (line : Line) (w : Instruction) → allowed (i .
 allowed-known i line w ok action e =
     let a : Allowed (i .bounds) (i .actions) line (Act action) = rw e at (allows (i .bounds) (i .actions) line w ok) in a .1
 
--- a possible position has at most 16 frames
-pub possible-depth : (i : Index) → Bounded i → (s : Position) → Standing i s → s .depth ≤ 16
-possible-depth i task s p =
-    elim (ℕ-discrete (s .depth) 0) [
-      | yes e ↦ omega (arith, e)
-      | no n ↦ omega (arith, depth-open i s (parts i s (p .0) .depth) (omega (arith, n)) .1, ranges (i .bounds) (task .ranges) .stack .1)
-    ]
-
 module _ (i : Index) (task : Bounded i) (h : Head) (callers : List Frame) (s : Position) (st : Stands h callers s) (p : Standing i s)
     (case : s .case < i .cases) (left : s .steps < i .bounds .steps) where
   -- with a case open there is a frame
@@ -75,7 +67,7 @@ module _ (i : Index) (task : Bounded i) (h : Head) (callers : List Frame) (s : P
   head-above = omega (arith, st .depth, case-open i s (parts i s (p .0) .depth) (omega (arith, case)))
 
   pub head-depth : h .depth ≤ 16
-  head-depth = omega (arith, st .depth, possible-depth i task s p)
+  head-depth = omega (arith, st .depth, possible-depth i s task (p .0))
 
   module _ (w : Instruction) (ok : allowed (i .bounds) (i .actions) (h .line) w ≡ true) where
     pub head-fits : Fits h w

@@ -5,6 +5,7 @@ use Prim.Native.Nat.{ℕ, _+_, _≤_, _<_}
 use mathlib.Core.Path.{_≡_}
 use mathlib.Core.Bool.{true}
 use mathlib.Core.List.{List}
+use native.Mathlib.Decide.{ℕ-discrete}
 use native.Mathlib.Omega.{arith}
 use lib.ListN.{length}
 use Rattle.task.specs.declared.index.Index.{Index}
@@ -19,7 +20,8 @@ use Rattle.task.proofs.Laws.Instruction.{Allowed, allows, allowed-line, decode-
 use Rattle.task.proofs.Laws.Passed.{Passed}
 use Rattle.task.proofs.Laws.Program.{program-passes, line-there, line-passes}
 use Rattle.step.specs.Head.{Fits, headOf}
-use Rattle.step.specs.Ready.{Held, Open, Runs, Known}
+use Rattle.step.specs.Possible.{possible}
+use Rattle.step.specs.Ready.{Bounded, Held, Open, Runs, Known}
 use Rattle.step.specs.declared.head.Head.{Head}
 use Rattle.step.specs.declared.position.Position.{Position}
 use Rattle.step.proofs.Laws.Kept.{top-used}
@@ -35,9 +37,16 @@ passed-held bytes t p =
     }
 
 module _ (i : Index) (s : Position) where
+  -- a possible position, finished or not, has at most 16 frames
+  pub possible-depth : Bounded i → possible i s ≡ true → s .depth ≤ 16
+  possible-depth task p =
+      elim (ℕ-discrete (s .depth) 0) [
+        | yes e ↦ omega (arith, e)
+        | no n ↦ omega (arith, depth-open i s (parts i s p .depth) (omega (arith, n)) .1, ranges (i .bounds) (task .ranges) .stack .1)
+      ]
+
   pub open-depth : Open i s → s .depth ≤ 16
-  open-depth o =
-      omega (arith, ranges (i .bounds) (o .task .ranges) .stack .1, depth-open i s (parts i s (o .possible) .depth) (o .unfinished) .1)
+  open-depth o = possible-depth (o .task) (o .possible)
 
   open-cases : Open i s → s .case < i .cases
   open-cases o =

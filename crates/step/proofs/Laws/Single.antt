@@ -81,7 +81,7 @@ unfolding unchanged
 finished-stays bytes program s v p h k l d =
     sym (step-finished bytes _ _ program s true (sym l) refl d ∙ both-passed bytes program s (readTask bytes) refl v h _ refl p k)
 
--- what the answers of the single step say, each shown of every answer that the definition can give
+-- what the answers of the single step say, of every answer that the definition can give
 module _ (bytes program : List ℕ) (s : Position) where
   abbrev t : Task
   t = readTask bytes .task
@@ -93,51 +93,53 @@ module _ (bytes program : List ℕ) (s : Position) where
     pub unfinished : 0 < s .depth
     pub ran : runStep bytes (t .index) (t .offsets) program s ≡ go u
 
-  record Says (r : Stepped) : Type 0 where
-    refused : (question place : ℕ) → r .verdict ≡ Refused question place → r .position ≡ s
-    made : r .verdict ≡ Accepted 1 → Made (r .position)
+  -- its answers: a refusal, or the finish, at the position as it was, or a step that was made
+  pub data Answers : Stepped → Type 0 where
+    refuses : (question place : ℕ) → Answers (unchanged s (Refused question place))
+    stays : Answers (unchanged s (Accepted 0))
+    makes : (u : Position) → Made u → Answers (record { verdict = Accepted 1; position = u })
 
-  unchanged-says : (v : Verdict) → (v ≡ Accepted 1 → ⊥) → Says (unchanged s v)
-  unfolding unchanged
-  unchanged-says v h = record { refused = λ q p e. refl; made = λ e. absurd (h e) }
-
-  refused-says : (question place : ℕ) → Says (unchanged s (Refused question place))
-  refused-says question place = unchanged-says _ refused-accepted
-
-  turn-says : Passed bytes t → possible (t .index) s ≡ true → 0 < s .depth → (u : Turn Position ℕ)
-      → runStep bytes (t .index) (t .offsets) program s ≡ u → Says (answered s u)
+  turn-answers : Passed bytes t → possible (t .index) s ≡ true → 0 < s .depth → (u : Turn Position ℕ)
+      → runStep bytes (t .index) (t .offsets) program s ≡ u → Answers (answered s u)
   unfolding answered
-  turn-says h p d (stop question) e = refused-says question (s .steps)
-  turn-says h p d (go next) e =
-      record {
-        refused = λ q p f. absurd (refused-accepted (sym f));
-        made = λ f. record { passes = h; possible = p; unfinished = d; ran = e };
-      }
+  turn-answers h p d (stop question) e = refuses question (s .steps)
+  turn-answers h p d (go next) e = makes next (record { passes = h; possible = p; unfinished = d; ran = e })
 
-  once-says : Passed bytes t → Says (stepOnce bytes (t .index) (t .offsets) program s)
+  once-answers : Passed bytes t → Answers (stepOnce bytes (t .index) (t .offsets) program s)
   unfolding stepOnce
-  once-says h =
-      cond-either Says _ _ _
-      (λ p. cond-either Says (eqb (s .depth) 0) _ _ (λ z. unchanged-says (Accepted 0) (λ e. omega (arith, ap valueOf e)))
-      (λ z. turn-says h p (omega (arith, eqb-false (s .depth) 0 z)) _ refl))
-      (λ z. refused-says POSSIBLE 0)
+  once-answers h =
+      cond-either Answers _ _ _
+      (λ p. cond-either Answers (eqb (s .depth) 0) _ _ (λ z. stays) (λ z. turn-answers h p (omega (arith, eqb-false (s .depth) 0 z)) _ refl))
+      (λ z. refuses POSSIBLE 0)
 
-  following-says : (v : Verdict) (rest : Stepped) → ((value : ℕ) → v ≡ Accepted value → Says rest) → Says (following s v rest)
+  following-answers : (v : Verdict) (rest : Stepped) → ((value : ℕ) → v ≡ Accepted value → Answers rest) → Answers (following s v rest)
   unfolding following
-  following-says (Accepted value) rest h = h value refl
-  following-says (Refused question place) rest h = refused-says question place
+  following-answers (Accepted value) rest h = h value refl
+  following-answers (Refused question place) rest h = refuses question place
 
-  says : Says (singleStep bytes program s)
+  pub single-answers : Answers (singleStep bytes program s)
   unfolding singleStep onReading
-  says = following-says _ _ (λ v e. following-says _ _ (λ w f. once-says (passed bytes v e)))
+  single-answers = following-answers _ _ (λ v e. following-answers _ _ (λ w f. once-answers (passed bytes v e)))
+
+  refused-stays : (r : Stepped) → Answers r → (question place : ℕ) → r .verdict ≡ Refused question place → r .position ≡ s
+  unfolding unchanged
+  refused-stays r (refuses q p) question place e = refl
+  refused-stays r stays question place e = refl
+  refused-stays r (makes u m) question place e = absurd (refused-accepted (sym e))
+
+  made-moves : (r : Stepped) → Answers r → r .verdict ≡ Accepted 1 → Made (r .position)
+  unfolding unchanged
+  made-moves r (refuses question place) e = absurd (refused-accepted e)
+  made-moves r stays e = absurd (omega (arith, ap valueOf e))
+  made-moves r (makes u m) e = m
 
   -- a refusal gives the position back as it was
   pub single-refused : (question place : ℕ) → singleStep bytes program s .verdict ≡ Refused question place → singleStep bytes program s .position ≡ s
-  single-refused = says .refused
+  single-refused = refused-stays _ single-answers
 
   -- 0 and 1 say that one step was made, from a possible position that is not the finish
   pub single-made : singleStep bytes program s .verdict ≡ Accepted 1 → Made (singleStep bytes program s .position)
-  single-made = says .made
+  single-made = made-moves _ single-answers
 
   -- and that it led to a possible position again, of 16 frames, with one step more done
   pub single-possible : length (s .frames) ≡ 16 → singleStep bytes program s .verdict ≡ Accepted 1

@@ -1,7 +1,7 @@
 -- A call for a number of steps, by what is asked first: the task's verdict, the program's, question 31; and what a call is admitted with. A position that
 -- a function is passed has 16 frames.
 -- Assumes nothing.
-use Prim.Native.Nat.{ℕ, _≤_, _<_}
+use Prim.Native.Nat.{ℕ, _≤_}
 use mathlib.Core.Path.{_≡_, refl, sym, ap, _∙_}
 use mathlib.Core.Bool.{Bool, true, false}
 use mathlib.Core.List.{List}

@@ -39,8 +39,8 @@ use Rattle.step.specs.declared.perform.Stepped.{Stepped}
 use Rattle.step.specs.declared.position.Frame.{Frame}
 use Rattle.step.specs.declared.position.Position.{Position}
 use Rattle.step.proofs.Laws.Moved.{asked-no, line-refused, line-moves}
-use Rattle.step.proofs.Laws.Possible.{parts, depth-open}
-use Rattle.step.proofs.Laws.Ready.{passed-held}
+use Rattle.step.proofs.Laws.Possible.{parts}
+use Rattle.step.proofs.Laws.Ready.{passed-held, possible-depth}
 use Rattle.step.proofs.Laws.Single.{step-finished, step-late, step-lines, both-passed, single-possible}
 use Rattle.steps.specs.Many.{takenTo, onward, stepsFrom}
 use Rattle.steps.specs.Running.{over, stoppedAt, Admitted}
@@ -179,22 +179,11 @@ module _ (bytes : List ℕ) (i : Index) (offsets program : List ℕ) (first : Po
       rw (← (a .index), ← (a .offsets))
       (both-passed bytes program s (readTask bytes) refl (a .value) (a .task) _ refl (a .checked) (rw (a .index) (a .program)))
 
-  bounds-most : (i .bounds .stack ≤ 16) × (i .bounds .steps ≤ 4096)
-  bounds-most = let r = ranges (i .bounds) (admitted-held .task .ranges) in (r .stack .1, r .steps .1)
-
-  -- a possible position, finished or not, has at most 16 frames
-  few : (s : Position) → possible i s ≡ true → s .depth ≤ 16
-  few s p =
-      elim (ℕ-discrete (s .depth) 0) [
-        | yes z ↦ omega (arith, z)
-        | no n ↦ omega (arith, bounds-most .0, depth-open i s (parts i s p .depth) (omega (arith, n)) .1)
-      ]
-
   pub first-few : first .depth ≤ 16
-  first-few = few first (a .possible)
+  first-few = possible-depth i first (admitted-held .task) (a .possible)
 
   pub first-steps : first .steps ≤ 4096
-  first-steps = omega (arith, bounds-most .1, parts i first (a .possible) .steps)
+  first-steps = omega (arith, ranges (i .bounds) (admitted-held .task .ranges) .steps .1, parts i first (a .possible) .steps)
 
   module _ (wanted : ℕ) where
     pub reached-first : (h : Head) → h ≡ headOf first → Reached bytes i program first wanted h (first .frames)
@@ -218,7 +207,7 @@ module _ (bytes : List ℕ) (i : Index) (offsets program : List ℕ) (first : Po
     module _ (h : Head) (frames : List Frame) (r : Reached bytes i program first wanted h frames) where
       pub reached-few : h .depth ≤ 16
       unfolding over
-      reached-few = few (over h frames) (r .standing)
+      reached-few = possible-depth i (over h frames) (admitted-held .task) (r .standing)
 
       reached-head : h ≡ headOf (over h frames)
       reached-head = over-head h frames (r .size) reached-few
