@@ -19,6 +19,11 @@ unfoldable pub keep : Bool → Decoded → Decoded
 keep true d = d
 keep false d = Nothing
 
+-- the instruction of an answer, empty where there is none
+abbrev pub orEmpty : Decoded → Instruction
+orEmpty (Is w) = w
+orEmpty Nothing = Empty
+
 -- the instruction that three bytes spell, whatever the line. There is none for an op above 4, nor where p or q has to be 0 and is not
 unfoldable pub spelled : Triple → Decoded
 spelled w =

@@ -7,4 +7,6 @@ pub mod Outcome
 pub mod Program
 pub mod Questions
 pub mod Reading
+pub mod Task
+pub mod TaskAt
 pub mod Verdict

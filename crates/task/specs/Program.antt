@@ -7,7 +7,7 @@ use lib.ListN.{length}
 use lib.Dec.{ltb, eqb}
 use Rattle.task.specs.Bounds.{lineCount, programSize}
 use Rattle.task.specs.First.{firstNo}
-use Rattle.task.specs.Instruction.{spelled, decode, tripleAt}
+use Rattle.task.specs.Instruction.{orEmpty, spelled, decode, tripleAt}
 use Rattle.task.specs.Questions.{PROGRAM-LENGTH, PROGRAM-LINES, PROGRAM-PRESETS}
 use Rattle.task.specs.declared.bounds.Bounds.{Bounds}
 use Rattle.task.specs.declared.index.Index.{Index}
@@ -15,7 +15,6 @@ use Rattle.task.specs.declared.instruction.Line.{Line}
 use Rattle.task.specs.declared.instruction.Proc.{Proc}
 use Rattle.task.specs.declared.instruction.Triple.{Triple}
 use Rattle.task.specs.declared.instruction.Instruction.{Instruction}
-use Rattle.task.specs.declared.instruction.Instruction.the-variants.{Empty}
 use Rattle.task.specs.declared.instruction.Decoded.{Decoded}
 use Rattle.task.specs.declared.instruction.Decoded.the-variants.{Is, Nothing}
 use Rattle.task.specs.declared.verdict.Verdict.{Verdict}
@@ -35,11 +34,7 @@ instructionOn i program procedure line = decode (i .bounds) (i .actions) line (l
 
 -- the instruction that they spell, allowed there or not; empty where they spell none
 unfoldable pub spelledOn : Bounds → List ℕ → Proc → Line → Instruction
-spelledOn b program procedure line = on (spelled (lineBytes b program procedure line))
-  where
-    on : Decoded → Instruction
-    on (Is w) = w
-    on Nothing = Empty
+spelledOn b program procedure line = orEmpty (spelled (lineBytes b program procedure line))
 
 -- whether three bytes decoded to an instruction
 unfoldable pub isInstruction : Decoded → Bool

@@ -16,7 +16,7 @@ use Rattle.task.specs.Instruction.{decodeFor, encode, tripleAt, withTrip
 use Rattle.task.specs.Program.{lineOffset}
 use Rattle.task.specs.Questions.{WHOLE, KIND, LENGTH, COUNT, BOUNDS, SETS, PRESET, REPEATED, CLOSED}
 use Rattle.task.specs.declared.index.Index.{Index}
-use Rattle.task.specs.declared.index.Task.{Task}
+use Rattle.task.specs.declared.index.Layout.{Layout}
 use Rattle.task.specs.declared.instruction.Decoded.{Decoded}
 use Rattle.task.specs.declared.instruction.Decoded.the-variants.{Is, Nothing}
 use Rattle.task.specs.declared.instruction.Line.{Line}
@@ -29,9 +29,9 @@ use Rattle.task.specs.declared.verdict.Verdict.the-variants.{Accepted, R
 unfoldable pub noIndex : Index
 noIndex = record { bounds = record { facts = 0; procedures = 0; last = 0; stack = 0; steps = 0 }; actions = 0; cases = 0; first = 0 }
 
--- no task: that index, and arrays of zeros
-unfoldable pub noTask : Task
-noTask = record { index = noIndex; offsets = replicate 64 0; presets = replicate 768 0 }
+-- the layout of no task: that index, and arrays of zeros
+unfoldable pub noLayout : Layout
+noLayout = record { index = noIndex; offsets = replicate 64 0; presets = replicate 768 0 }
 
 -- where the reading stands: how far it is (the next record's offset, the kind of the record before it, 0 at the start, and the index so far); the
 -- actions' offsets so far, 64 places; the preset program so far, 768 bytes
@@ -43,15 +43,15 @@ pub record State : Type 0 where
 -- it begins at the first byte with nothing known
 unfoldable pub begin : State
 begin =
-    record { progress = record { at = 0; last = 0; index = noIndex }; offsets = noTask .offsets; presets = noTask .presets }
+    record { progress = record { at = 0; last = 0; index = noIndex }; offsets = noLayout .offsets; presets = noLayout .presets }
 
 -- the answer to a task that is turned down
 unfoldable pub refused : ℕ → ℕ → Reading
-refused question place = record { verdict = Refused question place; task = noTask }
+refused question place = record { verdict = Refused question place; layout = noLayout }
 
 -- the answer to a task that passes
-unfoldable pub accepted : Task → Reading
-accepted task = record { verdict = Accepted 0; task = task }
+unfoldable pub accepted : Layout → Reading
+accepted layout = record { verdict = Accepted 0; layout = layout }
 
 -- one of five, by kind: 1 header, 2 action, 3 preset, 4 case, and another for any other kind
 unfoldable pub byKind : {A : Type 0} → ℕ → A → A → A → A → A → A
@@ -150,7 +150,7 @@ module _ (bytes : List ℕ) (s : State) (body : ℕ) where
         presets = s .presets;
       })))
 
--- the closing record: question 9; the task is what was read
+-- the closing record: question 9; the layout is what was noted
 unfoldable pub closeTurn : List ℕ → State → ℕ → Turn State Reading
 closeTurn bytes s next =
     ask (eqb next (length bytes)) (refused CLOSED next)

@@ -1,5 +1,5 @@
-// What a task that passes is known by: its bounds, where its actions and cases stand in its bytes, and its preset program; and
-// the readers of its actions and cases.
+// Where things stand in the file of a task that passes: its bounds, the places of its actions and cases, and its preset program;
+// and the readers of its actions and cases.
 use crate::bounds::Bounds;
 use crate::facts::Literals;
 use crate::facts::literals_at;
@@ -18,15 +18,15 @@ pub struct Index {
     pub first: usize,
 }
 
-// A task: its index, the offset of each action's record, and the preset program, which fills the first bytes.
-pub struct Task {
+// Where a task stands in its file: its index, the offset of each action's record, and the preset program, which fills the first bytes.
+pub struct Layout {
     pub index: Index,
     pub offsets: [usize; 64],
     pub presets: [u8; 768],
 }
 
-// An action: its precondition, and how many effects it has.
-pub struct Action {
+// What stands before an action's effects: its precondition, and how many effects there are.
+pub struct ActionFront {
     pub precondition: Literals,
     pub effects: u16,
 }
@@ -44,12 +44,12 @@ pub struct Case {
     pub goal: Literals,
 }
 
-// The action whose record is at an offset; its head and its precondition are there.
-pub fn action_at(task: &[u8], at: usize) -> Action
+// What stands before the effects of the action whose record is at an offset; the record's head and the precondition are there.
+pub fn action_at(task: &[u8], at: usize) -> ActionFront
     requires { ⌜ at + 20 ≤ length (now task) ⌝ }
     ensures { λ r. ⌜ r ≡ actionAt (now (task .entry)) at ⌝ }
 {
-    Action {
+    ActionFront {
         precondition: literals_at(task, at + 4),
         effects: two_at(task, at) / 32,
     }

@@ -8,7 +8,7 @@ use crate::facts::literals_at;
 use crate::facts::most;
 use crate::facts::pairs_before_fault;
 use crate::index::Index;
-use crate::index::Task;
+use crate::index::Layout;
 use crate::instruction::Line;
 use crate::instruction::Proc;
 use crate::instruction::decodes_for;
@@ -34,7 +34,7 @@ ghost use mathlib.Core.List.{List};
 ghost use mathlib.Core.Bool.{true};
 ghost use lib.ListN.{length};
 ghost use Rattle.records.specs.declared.record.Found.the-variants.{Record};
-ghost use Rattle.task.specs.Reading.{mayStand, lengthFits, actionTurn, presetTurn, caseTurn, onRecord, noIndex, noTask, refused, readTask};
+ghost use Rattle.task.specs.Reading.{mayStand, lengthFits, actionTurn, presetTurn, caseTurn, onRecord, noIndex, noLayout, refused, readTask};
 ghost use Rattle.task.specs.Bounds.{inRange};
 ghost use Rattle.task.specs.Outcome.{state, withRecord, turned, readingOf};
 
@@ -58,10 +58,10 @@ pub enum Ended {
     Refused(u8, usize),
 }
 
-// A task's verdict, and the task where it is accepted.
+// A task's verdict, and where the task stands if it is accepted.
 pub struct Reading {
     pub verdict: Verdict,
-    pub task: Task,
+    pub layout: Layout,
 }
 
 // Question 2.
@@ -239,7 +239,7 @@ fn no_index() -> Index
 
 // The records one after the other, until a question says no or the file is closed.
 fn read_records(task: &[u8], offsets: &mut [usize; 64], presets: &mut [u8; 768]) -> Ended
-    requires { ⌜ (now offsets ≡ noTask .offsets) × (now presets ≡ noTask .presets) ⌝ }
+    requires { ⌜ (now offsets ≡ noLayout .offsets) × (now presets ≡ noLayout .presets) ⌝ }
     ensures { λ r. ⌜ readingOf r (now (offsets .exit)) (now (presets .exit)) ≡ readTask (now (task .entry)) ⌝ }
 {
     let mut at = 0;
@@ -277,13 +277,13 @@ fn read_records(task: &[u8], offsets: &mut [usize; 64], presets: &mut [u8; 768])
     }
 }
 
-// No task, and why.
+// No layout, and why.
 fn refused(question: u8, place: usize) -> Reading
     ensures { λ r. ⌜ r ≡ refused question place ⌝ }
 {
     Reading {
         verdict: Verdict::Refused { question, place },
-        task: Task {
+        layout: Layout {
             index: no_index(),
             offsets: [0; 64],
             presets: [0; 768],
@@ -291,7 +291,7 @@ fn refused(question: u8, place: usize) -> Reading
     }
 }
 
-// A task file: its verdict, and the task where it is accepted.
+// A task file: its verdict, and where the task stands if it is accepted.
 pub fn read_task(task: &[u8]) -> Reading
     ensures { λ r. ⌜ r ≡ readTask (now (task .entry)) ⌝ }
 {
@@ -305,7 +305,7 @@ pub fn read_task(task: &[u8]) -> Reading
         Ended::Passed(index) => {
             return Reading {
                 verdict: Verdict::Accepted { value: 0 },
-                task: Task {
+                layout: Layout {
                     index,
                     offsets,
                     presets,

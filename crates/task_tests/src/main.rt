@@ -128,10 +128,10 @@ fn write_presets(presets: &[u8]) {
 
 fn write_task(bytes: &[u8]) {
     let reading = read_task(bytes);
-    let task = reading.task;
-    let index = task.index;
-    let offsets = task.offsets;
-    let presets = task.presets;
+    let layout = reading.layout;
+    let index = layout.index;
+    let offsets = layout.offsets;
+    let presets = layout.presets;
     write_bounds(index.bounds);
     write_actions(bytes, &offsets, index.actions as usize);
     write_cases(bytes, index.first, index.cases);
@@ -148,9 +148,9 @@ fn write_program(bytes: &[u8]) {
     }
     let program = &bytes[2..end];
     let reading = read_task(&bytes[end..]);
-    let task = reading.task;
-    let presets = task.presets;
-    write_verdict(check_program(task.index, &presets, program));
+    let layout = reading.layout;
+    let presets = layout.presets;
+    write_verdict(check_program(layout.index, &presets, program));
 }
 
 // Reads a record's body and answers it.

@@ -34,17 +34,18 @@ module _ (bytes : List ℕ) (at : ℕ) where
 module _ (bytes : List ℕ) (at kind start size next : ℕ) where
   ends : (t : Bool) → whole bytes at ≡ t
       → cond t (Record (u16At bytes (at + 2)) (at + 4) (u16At bytes at) (at + 4 + u16At bytes at)) Missing ≡ Record kind start size next
-      → (start ≡ at + 4) × (next ≡ start + size) × (next ≤ length bytes) × (size ≡ u16At bytes at)
+      → (start ≡ at + 4) × (next ≡ start + size) × (next ≤ length bytes) × (size ≡ u16At bytes at) × (kind ≡ u16At bytes (at + 2))
   unfolding whole
   ends true w e =
       let f : at + 4 ≡ start = cc in
       let g : u16At bytes at ≡ size = cc in
       let h : at + 4 + u16At bytes at ≡ next = cc in
+      let k : u16At bytes (at + 2) ≡ kind = cc in
       omega (arith, leb-true (at + 4 + u16At bytes at) (length bytes) (both-true (leb (at + 4) (length bytes)) _ w .1))
   ends false w e = let z : _≡_ {A = ℕ} 0 1 = cc in absurd (omega arith)
 
-  -- a whole record starts after its head, which has its length, and the next one begins where its body ends, within the file
+  -- a whole record starts after its head, which has its length and its kind, and the next one begins where its body ends, within the file
   pub record-ends : recordAt bytes at ≡ Record kind start size next
-      → (start ≡ at + 4) × (next ≡ start + size) × (next ≤ length bytes) × (size ≡ u16At bytes at)
+      → (start ≡ at + 4) × (next ≡ start + size) × (next ≤ length bytes) × (size ≡ u16At bytes at) × (kind ≡ u16At bytes (at + 2))
   unfolding recordAt
   record-ends e = ends (whole bytes at) refl e

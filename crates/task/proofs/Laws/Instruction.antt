@@ -1,5 +1,5 @@
 -- The tests of each op, that what is decoded is allowed on its line, that decoding and encoding are inverse to one another where the instruction
--- is allowed, and what questions 7 and 15 say of an instruction that they let pass.
+-- is allowed, that only the empty one has 0 as its first byte, and which instructions questions 7 and 15 let pass.
 -- Assumes nothing.
 use Prim.Native.Nat.{ℕ, zero, suc, _+_, _≤_, _<_}
 use mathlib.Core.List.{List}
@@ -7,7 +7,7 @@ use lib.ListN.{length, length-set}
 use mathlib.Core.Path.{_≡_, refl, sym, ap, _∙_}
 use mathlib.Core.Bool.{Bool, true, false, false≢true, _&&_}
 use lib.Dec.{leb, ltb, eqb}
-use borrow.Author.Tests.{ltb-true, leb-true, ne-eqb, eqb-true}
+use borrow.Author.Tests.{lt-ltb, ltb-true, leb-true, ne-eqb, eqb-true}
 use native.Mathlib.Omega.{arith}
 use Rattle.records.proofs.Laws.Tests.{both-true}
 use Rattle.task.specs.Instruction.{keep, spelled, allowed, whereAllowed, decode, decodeFor, encode, withTriple}
@@ -32,7 +32,7 @@ unfolding keep
 keep-is true d w h = (refl, h)
 keep-is false d w h = absurd (apart w (sym h))
 
-pub keep-yes : (t : Bool) (d : Decoded) → t ≡ true → d ≡ keep t d
+keep-yes : (t : Bool) (d : Decoded) → t ≡ true → d ≡ keep t d
 unfolding keep
 keep-yes t d h = rw h
 
@@ -243,28 +243,53 @@ allowed-line b actions line w h = on w (allows b actions line w h)
     on (Call procedure) k = omega arith
     on End k = k .1
 
+-- only the empty instruction's first byte is 0
+pub op-empty : (w : Instruction) → encode w .op ≡ 0 → w ≡ Empty
+unfolding encode
+op-empty Empty e = refl
+op-empty (Act action) e = absurd (omega arith)
+op-empty (Goto target fact) e = absurd (omega arith)
+op-empty (Call procedure) e = absurd (omega arith)
+op-empty End e = absurd (omega arith)
+
+-- an instruction that is not empty has a first byte above 0
+pub op-above : (w : Instruction) → (w ≡ Empty → ⊥) → 0 < encode w .op
+op-above w n = by (encode w .op) refl
+  where
+    by : (op : ℕ) → encode w .op ≡ op → 0 < encode w .op
+    by zero e = absurd (n (op-empty w e))
+    by (suc op) e = omega arith
+
 -- an instruction that questions 7 and 15 let pass for line l of procedure j
 pub record DecodedFor (b : Bounds) (actions : ℕ) (j : Proc) (l : Line) (t : Triple) (w : Instruction) : Type 0 where
   pub procedure : j .0 < b .procedures
   pub line : l .0 ≤ b .last
-  pub op : 0 < t .op
+  pub nonempty : w ≡ Empty → ⊥
   pub encodes : encode w ≡ t
   pub allowed : allowed b actions l w ≡ true
 
 pub decoded-for : (b : Bounds) (actions : ℕ) (j : Proc) (l : Line) (t : Triple) (w : Instruction) → decodeFor b actions j l t ≡ Is w
     → DecodedFor b actions j l t w
-unfolding decodeFor
+unfolding decodeFor encode
 decoded-for b actions j l t w h =
     let k = keep-is (ltb (j .0) (b .procedures) && ltb 0 (t .op)) _ w h in
     let both = both-true (ltb (j .0) (b .procedures)) _ (k .0) in
     let there = decode-allowed b actions l t w (k .1) in
+    let same = encode-decode b actions l t w (k .1) in
     record {
       procedure = ltb-true _ _ (both .0);
       line = allowed-line b actions l w there;
-      op = ltb-true _ _ (both .1);
-      encodes = encode-decode b actions l t w (k .1);
+      nonempty = λ z. omega (arith, ltb-true 0 (t .op) (both .1), ap (λ (x : Triple). x .op) same, ap (λ (v : Instruction). encode v .op) z);
+      encodes = same;
       allowed = there;
     }
+
+-- conversely, they let its bytes pass, and decode it
+pub for-decoded : (b : Bounds) (actions : ℕ) (j : Proc) (l : Line) (w : Instruction) → j .0 < b .procedures → allowed b actions l w ≡ true → (w ≡ Empty → ⊥)
+    → decodeFor b actions j l (encode w) ≡ Is w
+unfolding decodeFor
+for-decoded b actions j l w h k n =
+    sym (keep-yes _ _ (simp (lt-ltb (j .0) (b .procedures) h, lt-ltb 0 (encode w .op) (op-above w n)))) ∙ decode-encode b actions l w k
 
 -- the three bytes of a line for which questions 7 and 15 let an instruction pass are in a program of 768 bytes
 pub decoded-there : (b : Bounds) (actions : ℕ) (j : Proc) (l : Line) (t : Triple) → isInstruction (decodeFor b actions j l t) ≡ true → inRange b ≡ true

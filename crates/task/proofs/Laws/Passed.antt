@@ -1,5 +1,5 @@
 -- What holds of a task that passes: its bounds are in range, its counts are what question 4 admits, with at least one case, its actions and
--- cases, read where the task says that they stand, are all there, and their pairs and sets pass question 6. A turn that goes on has asked this of its
+-- cases, read where the layout says that they stand, are all there, and their pairs and sets pass question 6. A turn that goes on has asked this of its
 -- record, so every state has it of what was read so far; and only the closing record, which follows a case, ends with a task that passes.
 -- Assumes nothing.
 use Prim.Native.Nat.{ℕ, _+_, _*_, _/_, _%_, _≤_, _<_}
@@ -15,19 +15,19 @@ use borrow.Author.Tests.{ltb-true, eqb-true, eq-eqb, ne-eqb}
 use Rattle.task.specs.Outcome.{state}
 use Rattle.records.specs.Loop.{Turn, ask, go}
 use Rattle.records.specs.Numbers.{byteAt, u16At, u64At}
-use Rattle.records.proofs.Laws.Loop.{Keeps, ask-keeps}
+use Rattle.records.proofs.Laws.Loop.{Keeps}
+use Rattle.records.proofs.Laws.Record.{record-ends}
 use Rattle.records.proofs.Laws.Tests.{both-true}
 use Rattle.task.proofs.Laws.Facts.{pairs-consistent}
 use Rattle.task.proofs.Laws.Instruction.{put-length}
-use Rattle.task.proofs.Laws.Kept.{least, greatest, Follows, Kinds, reading-keeps, turn-keeps, follows}
-use Rattle.task.proofs.Laws.Verdict.{refused-accepted}
+use Rattle.task.proofs.Laws.Kept.{least, greatest, Follows, There, Kinds, IfAccepted, refused-vacuous, ask-if-accepted, reading-keeps, turn-keeps, follows}
 use Rattle.task.specs.Bounds.{inRange}
 use Rattle.task.specs.Facts.{literalsAt, within, consistent, pairsBeforeFault}
 use Rattle.task.specs.Index.{actionAt, effectAt, caseAt}
 use Rattle.task.specs.Instruction.{encode}
 use Rattle.task.specs.Program.{lineOffset}
-use Rattle.task.specs.Reading.{State, noIndex, noTask, begin, refused, accepted, headerTurn, actionTurn, onPreset, presetTurn, caseTurn, closeTurn, readTask, turnOf, mayStand}
-use Rattle.task.specs.declared.index.Task.{Task}
+use Rattle.task.specs.Reading.{State, noIndex, noLayout, begin, refused, accepted, headerTurn, actionTurn, onPreset, presetTurn, caseTurn, closeTurn, readTask, turnOf, mayStand}
+use Rattle.task.specs.declared.index.Layout.{Layout}
 use Rattle.task.specs.declared.instruction.Decoded.{Decoded}
 use Rattle.task.specs.declared.instruction.Decoded.the-variants.{Is, Nothing}
 use Rattle.task.specs.declared.reading.Progress.{Progress}
@@ -49,8 +49,8 @@ CaseSound facts bytes first c = (within facts (caseAt bytes first c .start) ≡ 
 abbrev pub ActionThere : List ℕ → ℕ → Type 0
 ActionThere bytes at = at + (20 + 32 * actionAt bytes at .effects) ≤ length bytes
 
--- a task that passes
-pub record Passed (bytes : List ℕ) (t : Task) : Type 0 where
+-- the layout of a task that passes
+pub record Passed (bytes : List ℕ) (t : Layout) : Type 0 where
   pub bounded : inRange (t .index .bounds) ≡ true
   pub actions : t .index .actions ≤ 64
   pub cases : (1 ≤ t .index .cases) × (t .index .cases ≤ 32)
@@ -96,7 +96,7 @@ module _ (at first cases : ℕ) where
   noted-kept : 1 ≤ cases → noted ≡ first
   noted-kept h = simp (ne-eqb cases 0 (omega arith))
 
-  noted-placed : (1 ≤ cases → at ≡ first + 28 * cases) → at ≡ noted + 28 * cases
+  pub noted-placed : (1 ≤ cases → at ≡ first + 28 * cases) → at ≡ noted + 28 * cases
   noted-placed h =
       elim (ℕ-discrete cases 0) [
         | yes e ↦ simp (eq-eqb cases 0 e) (omega arith)
@@ -129,7 +129,7 @@ pub record Reached (bytes : List ℕ) (s : State) : Type 0 where
 
 module _ (bytes : List ℕ) where
   pub begin-reached : Reached bytes begin
-  unfolding begin noTask noIndex
+  unfolding begin noLayout noIndex
   begin-reached =
       record {
         counted = omega (arith, length-replicate {A = ℕ} 64 0, length-replicate {A = ℕ} 768 0);
@@ -140,21 +140,13 @@ module _ (bytes : List ℕ) where
         cased = omega arith;
       }
 
-  -- an answer that passes has a task that passes
-  abbrev Sound : Reading → Type 0
-  Sound r = (v : ℕ) → r .verdict ≡ Accepted v → Passed bytes (r .task)
-
-  refused-sound : (question place : ℕ) → Sound (refused question place)
-  unfolding refused
-  refused-sound question place v e = absurd (refused-accepted e)
-
-  -- a turn that gives such an answer, or such a state
+  -- a turn that goes to such a state, or whose answer has the layout of a task that passes if it accepts
   abbrev Kept : Turn State Reading → Type 0
-  Kept = Keeps (Reached bytes) Sound
+  Kept = Keeps (Reached bytes) (IfAccepted (Passed bytes))
 
   ask-kept : (answer : Bool) (question place : ℕ) (rest : Turn State Reading) → (answer ≡ true → Kept rest)
       → Kept (ask answer (refused question place) rest)
-  ask-kept answer question place rest k = ask-keeps (Reached bytes) Sound answer _ rest (refused-sound question place) k
+  ask-kept = ask-if-accepted (Reached bytes) (Passed bytes)
 
   module _ (s : State) (reached : Reached bytes s) where
     header-kept : (body next : ℕ) → Kept (headerTurn bytes s body next)
@@ -170,12 +162,13 @@ module _ (bytes : List ℕ) where
           cased = omega arith;
         }
 
-    action-kept : (size next : ℕ) → Follows (s .progress .last) 2 → size ≡ u16At bytes (s .progress .at) → size % 32 ≡ 16
-        → s .progress .at + (4 + size) ≤ length bytes → Kept (actionTurn bytes s (s .progress .at + 4) size next)
+    action-kept : (size next : ℕ) → Follows (s .progress .last) 2 → There bytes s 2 size → size % 32 ≡ 16
+        → Kept (actionTurn bytes s (s .progress .at + 4) size next)
     unfolding actionTurn
-    action-kept size next f e m there =
+    action-kept size next f stands m =
         ask-kept _ _ _ _ λ h.
         ask-kept _ _ _ _ λ k.
+        let ends = record-ends bytes (s .progress .at) 2 _ size _ stands in
         let n = s .progress .index .actions in
         let o = s .offsets in
         let few : n < 64 = ltb-true n 64 h in
@@ -186,18 +179,18 @@ module _ (bytes : List ℕ) where
           action =
               one-more (λ (a : ℕ). ActionSound (s .progress .index .bounds .facts) bytes (getD (set o n (s .progress .at)) a 0)) n
               (λ a l. rw (getD-set-other o n a (s .progress .at) 0 (omega arith)) (reached .action a l))
-              (rw here (action-sound _ bytes (s .progress .at) size e m (eqb-true _ _ k)));
+              (rw here (action-sound _ bytes (s .progress .at) size (ends .3) m (eqb-true _ _ k)));
           case = reached .case;
           held =
               one-more (λ (a : ℕ). ActionThere bytes (getD (set o n (s .progress .at)) a 0)) n
               (λ a l. rw (getD-set-other o n a (s .progress .at) 0 (omega arith)) (reached .held a l))
-              (rw here (action-there bytes (s .progress .at) size e m there));
+              (rw here (action-there bytes (s .progress .at) size (ends .3) m (ends .2)));
           cased = reached .cased;
         }
 
     on-preset-kept : (body next : ℕ) → Follows (s .progress .last) 3 → (d : Decoded) → Kept (onPreset bytes s body next d)
     unfolding onPreset
-    on-preset-kept body next f Nothing = refused-sound _ _
+    on-preset-kept body next f Nothing = refused-vacuous (Passed bytes) _ _
     on-preset-kept body next f (Is w) =
         ask-kept _ _ _ _ λ h.
         let line = lineOffset (s .progress .index .bounds) (record { 0 = byteAt bytes body }) (record { 0 = byteAt bytes (body + 1) }) in
@@ -214,9 +207,9 @@ module _ (bytes : List ℕ) where
     unfolding presetTurn
     preset-kept body next f = on-preset-kept body next f _
 
-    case-kept : Follows (s .progress .last) 4 → s .progress .at + 28 ≤ length bytes → Kept (caseTurn bytes s (s .progress .at + 4) (s .progress .at + 28))
+    case-kept : Follows (s .progress .last) 4 → There bytes s 4 24 → Kept (caseTurn bytes s (s .progress .at + 4) (s .progress .at + 28))
     unfolding caseTurn
-    case-kept f there =
+    case-kept f stands =
         ask-kept _ _ _ _ λ h.
         ask-kept _ _ _ _ λ k.
         let n = s .progress .index .cases in
@@ -231,7 +224,7 @@ module _ (bytes : List ℕ) where
               (λ c l. rw (noted-kept (s .progress .at) (s .progress .index .first) n (omega arith)) (reached .case c l))
               (case-sound _ bytes (s .progress .at) _ n behind k);
           held = reached .held;
-          cased = omega (arith, behind);
+          cased = omega (arith, behind, record-ends bytes (s .progress .at) 4 _ 24 _ stands .2);
         }
 
     close-kept : (next : ℕ) → Follows (s .progress .last) 5 → Kept (closeTurn bytes s next)
@@ -250,25 +243,25 @@ module _ (bytes : List ℕ) where
           cased = reached .cased;
         }
 
-    kinds-kept : Kinds (Reached bytes) Sound bytes s
+    kinds-kept : Kinds (Reached bytes) (IfAccepted (Passed bytes)) bytes s
     kinds-kept =
         record {
-          refusal = λ question. refused-sound question _;
-          header = λ f. header-kept _ _;
-          action = λ size f e l m there. action-kept size _ f e m there;
-          preset = λ f. preset-kept _ _ f;
+          refusal = λ question. refused-vacuous (Passed bytes) question _;
+          header = λ f r. header-kept _ _;
+          action = λ size f r l m. action-kept size _ f r m;
+          preset = λ f r. preset-kept _ _ f;
           case = case-kept;
-          close = λ f. close-kept _ f;
+          close = λ f r. close-kept _ f;
         }
 
 -- a turn that goes on goes to such a state again
 pub next-reached : (bytes : List ℕ) (s t : State) → Reached bytes s → go t ≡ turnOf bytes s → Reached bytes t
-next-reached bytes s t r e = rw (sym e) at (turn-keeps (Reached bytes) (Sound bytes) bytes s (kinds-kept bytes s r))
+next-reached bytes s t r e = rw (sym e) at (turn-keeps (Reached bytes) (IfAccepted (Passed bytes)) bytes s (kinds-kept bytes s r))
 
 -- the bounds are in range where any other record than the first may stand
 pub next-bounded : (bytes : List ℕ) (p : Progress) (o q : List ℕ) → Reached bytes (state p o q) → (kind : ℕ) → mayStand (p .last) kind ≡ true → 2 ≤ kind
     → inRange (p .index .bounds) ≡ true
 next-bounded bytes p o q reached kind h k = reached .bounded (omega (arith, follows (p .last) kind h .high))
 
-pub passed : (bytes : List ℕ) (v : ℕ) → readTask bytes .verdict ≡ Accepted v → Passed bytes (readTask bytes .task)
-passed bytes = reading-keeps (Reached bytes) (Sound bytes) bytes (begin-reached bytes) (kinds-kept bytes)
+pub passed : (bytes : List ℕ) (v : ℕ) → readTask bytes .verdict ≡ Accepted v → Passed bytes (readTask bytes .layout)
+passed bytes = reading-keeps (Reached bytes) (IfAccepted (Passed bytes)) bytes (begin-reached bytes) (kinds-kept bytes)

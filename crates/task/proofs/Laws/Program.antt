@@ -1,5 +1,5 @@
 -- A program's verdict, question by question, and what a program that passes has; the number of a line in its procedure, as the lines are counted through all
--- procedures: it grows by one, or starts again at 0; and the instruction on a line that has one, told by its op alone.
+-- procedures: it grows by one, or starts again at 0; a line's number in that count, and back; and the instruction on a line that has one, told by its op alone.
 -- Assumes nothing.
 use Prim.Native.Nat.{ℕ, _+_, _*_, _/_, _%_, _≤_, _<_}
 use mathlib.Core.List.{List}
@@ -8,7 +8,7 @@ use mathlib.Core.Bool.{Bool, true, false, false≢true, cond, _&&_}
 use lib.Dec.{eqb, ltb}
 use borrow.Author.Tests.{lt-ltb, le-ltb, ltb-false, eq-eqb, ne-eqb, eqb-true}
 use mathlib.Core.Path.{_≡_, refl, sym, ap, _∙_}
-use native.Mathlib.Nat.{mod-lt, mod-add-mod, mod-eq-of-lt, mod-self, div-add-mod', mul-le-mul-right, mul-add-mod-self-right}
+use native.Mathlib.Nat.{mod-lt, mod-add-mod, mod-eq-of-lt, mod-self, div-add-mod', mul-le-mul-right, mul-add-mod-self-right, mul-add-div-right, div-eq-of-lt}
 use native.Mathlib.Omega.{arith}
 use Rattle.records.specs.Numbers.{byteAt}
 use Rattle.task.proofs.Laws.First.{found-most, all-found, found-all}
@@ -40,6 +40,18 @@ module _ (last k line : ℕ) (e : line ≡ k % (last + 1)) where
   line-again h =
       let t : line ≡ last = omega (arith, mod-lt k {m = last + 1} (omega arith)) in
       sym (rw t (mod-self (last + 1))) ∙ same-line
+
+-- the number of a line, counted through all procedures
+abbrev pub lineNumber : Bounds → Proc → Line → ℕ
+lineNumber b procedure line = procedure .0 * (b .last + 1) + line .0
+
+-- and back, to the procedure and the line
+pub line-parts : (last j i : ℕ) → i ≤ last → ((j * (last + 1) + i) / (last + 1) ≡ j) × ((j * (last + 1) + i) % (last + 1) ≡ i)
+line-parts last j i h =
+    let short : i < last + 1 = omega arith in (
+      mul-add-div-right {m = last + 1} (omega arith) j i ∙ omega (arith, div-eq-of-lt short),
+      mul-add-mod-self-right j (last + 1) i ∙ mod-eq-of-lt short,
+    )
 
 -- `n` is the number of lines, `a` and `k` how many pass questions 26 and 27 before the first that does not
 module _ (i : Index) (presets program : List ℕ) (n : ℕ) (e : n ≡ lineCount (i .bounds)) where
@@ -148,7 +160,7 @@ module _ (i : Index) (presets program : List ℕ) where
 module _ (i : Index) (presets program : List ℕ) (p : Passes i presets program) (procedure : Proc) (line : Line)
     (h : procedure .0 < i .bounds .procedures) (l : line .0 ≤ i .bounds .last) where
   abbrev number : ℕ
-  number = procedure .0 * (i .bounds .last + 1) + line .0
+  number = lineNumber (i .bounds) procedure line
 
   below : number < lineCount (i .bounds)
   unfolding lineCount
@@ -161,9 +173,7 @@ module _ (i : Index) (presets program : List ℕ) (p : Passes i presets program)
   pub line-passes : isInstruction (instructionOn i program procedure line) ≡ true
   unfolding instructionOn lineOffset lineAllowed
   line-passes =
-      let e : number % (i .bounds .last + 1) ≡ line .0 =
-      mul-add-mod-self-right (procedure .0) (i .bounds .last + 1) (line .0) ∙ mod-eq-of-lt (omega arith) in
-      rw e at (p .lines number below)
+      rw (line-parts (i .bounds .last) (procedure .0) (line .0) l .1) at (p .lines number below)
 
 -- three bytes that decode spell an instruction, and it is the one that they decode to
 decoded-spelled : (b : Bounds) (actions : ℕ) (line : Line) (w : Triple) → isInstruction (decode b actions line w) ≡ true

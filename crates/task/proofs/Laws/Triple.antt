@@ -1,16 +1,19 @@
--- The three bytes of a line: an instruction is determined by them, only the empty one has 0 as its first, and the test of two triples is
--- whether they are the same. Three bytes put on a line are there, and those of every other line stay, because a line begins at a multiple of 3.
+-- The three bytes of a line: an instruction is determined by them, and the test of two triples is whether they are the same. Three bytes put on a line are
+-- there, and those of every other line stay, because a line begins at a multiple of 3. Three bytes, and the five of a preset and of a plan's step, in what stands
+-- from an offset on.
 -- Assumes nothing.
 use Prim.Native.Nat.{ℕ, _+_, _*_, _/_, _≤_}
 use mathlib.Core.Path.{_≡_, refl, sym, ap, _∙_}
 use mathlib.Core.Bool.{true, _&&_}
-use mathlib.Core.List.{List}
+use mathlib.Core.List.{List, _∷_}
+use native.Mathlib.Nat.{add-assoc}
 use native.Mathlib.Omega.{arith}
-use lib.ListN.{length, set, length-set}
-use lib.Seq.{getD-set-same, getD-set-other, set-getD}
+use lib.ListN.{length, drop, set, length-set}
+use lib.Seq.{drop-cons, getD-set-same, getD-set-other, set-getD}
 use lib.Dec.{eqb}
 use borrow.Author.Tests.{eqb-true, eq-eqb}
 use Rattle.records.specs.Numbers.{byteAt}
+use Rattle.records.proofs.Laws.Bytes.{byte-behind}
 use Rattle.records.proofs.Laws.Tests.{both-true}
 use Rattle.task.proofs.Laws.Instruction.{triple-is, encode-decode}
 use Rattle.task.specs.Instruction.{keep, spelled, encode, tripleAt, withTriple}
@@ -44,15 +47,6 @@ unfolding instructionOn spelledOn
 decoded-on i program procedure line w e =
     let x = encode-decode (i .bounds) (i .actions) line (lineBytes (i .bounds) program procedure line) w e in
     (x, rw (← x, spelled-encode))
-
--- only the empty instruction's first byte is 0
-pub op-empty : (w : Instruction) → encode w .op ≡ 0 → w ≡ Empty
-unfolding encode
-op-empty Empty e = refl
-op-empty (Act action) e = absurd (omega arith)
-op-empty (Goto target fact) e = absurd (omega arith)
-op-empty (Call procedure) e = absurd (omega arith)
-op-empty End e = absurd (omega arith)
 
 -- the test of three bytes, one after the other, is whether they are the same
 pub same-triple : (v w : Triple) → sameTriple v w ≡ true → v ≡ w
@@ -99,3 +93,21 @@ module _ (program : List ℕ) (k : ℕ) (w : Triple) where
   unfolding tripleAt
   put-other l n =
       triple-is (byte-kept (3 * l) (omega arith)) (byte-kept (3 * l + 1) (omega arith)) (byte-kept (3 * l + 2) (omega arith))
+
+-- the three bytes at an offset, in what stands from an earlier one on
+pub triple-behind : (bytes : List ℕ) (at k : ℕ) → tripleAt bytes (at + k) ≡ tripleAt (drop at bytes) k
+unfolding tripleAt
+triple-behind bytes at k = simp (← byte-behind, add-assoc)
+
+-- the five bytes of a preset and of a plan's step: procedure, line and instruction
+pub five-bytes : (l : List ℕ) → 5 ≤ length l
+    → l ≡ byteAt l 0 ∷ byteAt l 1 ∷ tripleAt l 2 .op ∷ tripleAt l 2 .p ∷ tripleAt l 2 .q ∷ drop 5 l
+unfolding tripleAt
+five-bytes l h =
+    cc (
+      drop-cons l 0 0 (omega arith),
+      drop-cons l 1 0 (omega arith),
+      drop-cons l 2 0 (omega arith),
+      drop-cons l 3 0 (omega arith),
+      drop-cons l 4 0 (omega arith),
+    )

@@ -3,12 +3,12 @@
 use borrow.Author.Needs.{needs}
 use mathlib.Core.Path.{refl, _∙_}
 use Rattle.task.specs.Outcome.{readingOf}
-use Rattle.task.specs.Reading.{noTask, accepted}
+use Rattle.task.specs.Reading.{noLayout, accepted}
 use Rattle.task.proofs.reading.read_task.Statement.{statement}
 use Rattle.task.proofs.reading.read_task.Tie as tie
 
 read-records-requires : tie.Need-read-records-requires
-unfolding noTask
+unfolding noLayout
 read-records-requires c κs = (refl, refl)
 
 enum-known-ended : tie.Need-enum-known-ended
