@@ -17,7 +17,7 @@ use Rattle.task.specs.Instruction.{decodeFor, encode, tripleAt, withTriple}
 use Rattle.task.specs.Program.{lineOffset, sameTriple}
 use Rattle.task.specs.Reading.{readTask}
 use Rattle.task.specs.declared.index.Index.{Index}
-use Rattle.task.specs.declared.index.Task.{Task}
+use Rattle.task.specs.declared.index.Layout.{Layout}
 use Rattle.task.specs.declared.instruction.Decoded.{Decoded}
 use Rattle.task.specs.declared.instruction.Decoded.the-variants.{Is, Nothing}
 use Rattle.task.specs.declared.instruction.Triple.{Triple}
@@ -53,7 +53,7 @@ unfoldable pub onMove : ℕ → ℕ → List ℕ → Turn Position ℕ → Turn 
 onMove at next program (stop question) = stop (refused question at)
 onMove at next program (go position) = go (record { at = next; position = position; program = program })
 
--- a step, for a task's bytes and what was read from them
+-- a step, for a task's bytes, its index and its actions' offsets
 module _ (bytes : List ℕ) (i : Index) (offsets : List ℕ) (s : State) where
   -- at a frame: questions 16, 17 and 18, then what its instruction asks
   unfoldable pub onStep : ℕ → Frame → Step → Turn State Result
@@ -103,13 +103,13 @@ unfoldable pub begin : List ℕ → Index → List ℕ → State
 begin bytes i presets = record { at = 0; position = starting 0 (caseAt bytes (i .first) 0 .start); program = presets }
 
 -- the whole plan. Every record has at least four bytes, so the loop never runs out of turns
-unfoldable pub follow : List ℕ → Task → List ℕ → Result
+unfoldable pub follow : List ℕ → Layout → List ℕ → Result
 follow bytes t plan =
     loop (turnOf bytes (t .index) (t .offsets) plan) (left plan) (refused PLAN-RECORD 0) (begin bytes (t .index) (t .presets))
 
 -- the checker: the task's own verdict, question 10, then the plan's
 unfoldable pub check : List ℕ → List ℕ → List ℕ → Answer
 check bytes plan buffer =
-    let t = readTask bytes .task in
+    let t = readTask bytes .layout in
     let size = programSize (t .index .bounds) in
     answer size buffer (passing (readTask bytes .verdict) (cond (leb size (length buffer)) (follow bytes t plan) (refused BUFFER 0)))

@@ -9,7 +9,7 @@ use Rattle.task.specs.Program.{lineOffset, programVerdict}
 use Rattle.task.specs.Reading.{readTask}
 use Rattle.task.specs.Instruction.{allowed, encode, tripleAt}
 use Rattle.task.specs.declared.index.Index.{Index}
-use Rattle.task.specs.declared.index.Task.{Task}
+use Rattle.task.specs.declared.index.Layout.{Layout}
 use Rattle.task.specs.declared.instruction.Instruction.{Instruction}
 use Rattle.task.specs.declared.instruction.Triple.{Triple}
 use Rattle.task.specs.declared.verdict.Verdict.{Verdict}
@@ -30,11 +30,11 @@ use Rattle.checker.specs.declared.check.Read.{Read}
 use Rattle.checker.specs.declared.check.Read.the-variants.{Stopped, Closing, Ready}
 use Rattle.checker.specs.declared.plan.Step.{Step}
 
--- a task file that passes, and what was read from it
-pub record ReadAs (bytes : List ℕ) (t : Task) : Type 0 where
+-- a task file that passes, and its layout
+pub record ReadAs (bytes : List ℕ) (t : Layout) : Type 0 where
   pub value : ℕ
   pub verdict : readTask bytes .verdict ≡ Accepted value
-  pub task : readTask bytes .task ≡ t
+  pub layout : readTask bytes .layout ≡ t
 
 -- the checker's state, from the three parts that it holds
 abbrev pub state : ℕ → Position → List ℕ → State
@@ -87,7 +87,7 @@ followedBy (Refused question place) program = refused question place
 followedBy (Accepted steps) program = accepted steps program
 
 -- a task that passes, and a program that passes 25 to 27
-pub record RunsOf (bytes : List ℕ) (t : Task) (program : List ℕ) : Type 0 where
+pub record RunsOf (bytes : List ℕ) (t : Layout) (program : List ℕ) : Type 0 where
   pub read : ReadAs bytes t
   pub value : ℕ
   pub passes : programVerdict (t .index) (t .presets) program ≡ Accepted value

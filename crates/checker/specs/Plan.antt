@@ -5,6 +5,7 @@ use mathlib.Core.List.{List, [], _∷_, _++_}
 use mathlib.Core.Bool.{Bool, cond, _||_}
 use lib.Dec.{eqb}
 use Rattle.records.specs.Numbers.{byteAt}
+use Rattle.records.specs.Record.{recordBytes, closing}
 use Rattle.task.specs.Bounds.{between}
 use Rattle.task.specs.Instruction.{encode}
 use Rattle.task.specs.declared.instruction.Instruction.{Instruction}
@@ -43,15 +44,11 @@ lengthFits kind size = cond (eqb kind 5) (eqb size 0) (eqb size 5)
 unfoldable pub frameAt : List ℕ → ℕ → Frame
 frameAt plan body = record { procedure = record { 0 = byteAt plan body }; line = record { 0 = byteAt plan (body + 1) } }
 
--- the bytes of a step's record: the body's length, the kind, and the body
+-- the bytes of a step's record: its body is the procedure, the line, and the instruction's three bytes
 unfoldable pub recordOf : PlanStep → List ℕ
 recordOf s =
     let w = encode (instructionOf (s .step)) in
-    5 ∷ 0 ∷ kindOf (s .step) ∷ 0 ∷ s .frame .procedure .0 ∷ s .frame .line .0 ∷ w .op ∷ w .p ∷ w .q ∷ []
-
--- the bytes of the closing record
-unfoldable pub closing : List ℕ
-closing = 0 ∷ 0 ∷ 5 ∷ 0 ∷ []
+    recordBytes (kindOf (s .step)) (s .frame .procedure .0 ∷ s .frame .line .0 ∷ w .op ∷ w .p ∷ w .q ∷ [])
 
 -- the bytes of a plan: its steps' records, and the closing one
 unfoldable pub planOf : List PlanStep → List ℕ

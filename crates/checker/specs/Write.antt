@@ -8,11 +8,12 @@ use mathlib.Core.Bool.{cond}
 use lib.ListN.{length}
 use lib.Dec.{leb, ltb, eqb}
 use Rattle.records.specs.Loop.{Turn, stop, go, loop}
+use Rattle.records.specs.Record.{closing}
 use Rattle.task.specs.Index.{caseAt}
 use Rattle.task.specs.Program.{lineOffset, lineBytes, spelledOn, programVerdict}
 use Rattle.task.specs.Reading.{readTask}
 use Rattle.task.specs.declared.index.Index.{Index}
-use Rattle.task.specs.declared.index.Task.{Task}
+use Rattle.task.specs.declared.index.Layout.{Layout}
 use Rattle.task.specs.declared.instruction.Instruction.{Instruction}
 use Rattle.task.specs.declared.instruction.Triple.{Triple}
 use Rattle.task.specs.declared.verdict.Verdict.the-variants.{Refused}
@@ -22,7 +23,7 @@ use Rattle.step.specs.Questions.{STEPS}
 use Rattle.step.specs.declared.position.Position.{Position}
 use Rattle.checker.specs.Answer.{Answer, Result, refused, accepted, passing, answer}
 use Rattle.checker.specs.Check.{written}
-use Rattle.checker.specs.Plan.{recordOf, closing, planSize}
+use Rattle.checker.specs.Plan.{recordOf, planSize}
 use Rattle.checker.specs.Questions.{PLAN-BUFFER}
 use Rattle.checker.specs.declared.plan.Step.{Step}
 use Rattle.checker.specs.declared.plan.Step.the-variants.{Write, Repeat}
@@ -66,14 +67,14 @@ unfoldable pub start : List ℕ → Index → List ℕ → Writing
 start bytes i presets = record { position = starting 0 (caseAt bytes (i .first) 0 .start); lines = presets; plan = [] }
 
 -- the whole run. Question 14 stops it after S steps, so the loop never runs out of turns
-unfoldable pub run : List ℕ → Task → List ℕ → Result
+unfoldable pub run : List ℕ → Layout → List ℕ → Result
 run bytes t program =
     loop (writeTurn bytes (t .index) (t .offsets) program) (stepsLeft (t .index)) (refused STEPS 0) (start bytes (t .index) (t .presets))
 
 -- what the program comes to: the task's verdict, the program's own, and its run
 unfoldable pub programResult : List ℕ → List ℕ → Result
 programResult bytes program =
-    let t = readTask bytes .task in
+    let t = readTask bytes .layout in
     passing (readTask bytes .verdict) (passing (programVerdict (t .index) (t .presets) program) (run bytes t program))
 
 -- the answer to it: question 29 comes after the finish, and its place is the number of bytes needed

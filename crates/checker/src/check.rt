@@ -294,6 +294,6 @@ pub fn check_plan(task: &[u8], plan: &[u8], buffer: &mut [u8]) -> Verdict
     let Verdict::Accepted { value: _ } = verdict else {
         return verdict;
     };
-    let read = reading.task;
+    let read = reading.layout;
     check_passed(task, read.index, &read.offsets, read.presets, plan, buffer)
 }

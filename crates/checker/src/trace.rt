@@ -16,8 +16,8 @@ ghost use mathlib.Core.Path.{_≡_};
 ghost use mathlib.Core.List.{_++_};
 ghost use Prim.Native.Nat.{_≤_};
 ghost use lib.ListN.{length};
+ghost use Rattle.records.specs.Record.{closing};
 ghost use Rattle.checker.specs.Answer.{accepted};
-ghost use Rattle.checker.specs.Plan.{closing};
 ghost use Rattle.checker.specs.Trace.{frameOf, SpelledAt, linesWith, recordOn, Spelled, recordsAfter};
 ghost use Rattle.checker.specs.Write.{onFinish};
 

@@ -71,7 +71,7 @@ pub fn write_plan(task: &[u8], program: &[u8], buffer: &mut [u8]) -> Verdict
     let Verdict::Accepted { value: _ } = verdict else {
         return verdict;
     };
-    let read = reading.task;
+    let read = reading.layout;
     let index = read.index;
     let checked = check_program(index, &read.presets, program);
     let Verdict::Accepted { value: _ } = checked else {

@@ -5,16 +5,18 @@
 use Prim.Native.Nat.{ℕ, _+_, _≤_}
 use mathlib.Core.Path.{_≡_, refl, sym, ap, _∙_}
 use mathlib.Core.Bool.{Bool, true, false}
-use mathlib.Core.List.{List, [], _∷_, _++_}
+use mathlib.Core.List.{List, [], _∷_, _++_, flatMap}
 use native.Mathlib.Omega.{arith}
 use lib.ListN.{length, drop, length-append}
 use lib.Dec.{leb}
 use borrow.Author.Tests.{le-leb, leb-true}
 use Rattle.records.specs.Loop.{Turn, stop, go, after}
+use Rattle.records.specs.Record.{closing}
+use Rattle.records.proofs.Laws.Bytes.{closing-read}
 use Rattle.records.proofs.Laws.Loop.{Keeps, loop-keeps}
 use Rattle.task.specs.Bounds.{programSize}
 use Rattle.task.specs.Reading.{readTask}
-use Rattle.task.specs.declared.index.Task.{Task}
+use Rattle.task.specs.declared.index.Layout.{Layout}
 use Rattle.task.specs.declared.verdict.Verdict.{Verdict}
 use Rattle.task.specs.declared.verdict.Verdict.the-variants.{Accepted, Refused}
 use Rattle.task.proofs.Laws.Passed.{Passed, passed}
@@ -24,25 +26,25 @@ use Rattle.step.proofs.Laws.Kept.{starting-possible}
 use Rattle.checker.specs.Check as check
 use Rattle.checker.specs.Answer.{Answer, Result, refused, accepted, passing, filled, answer}
 use Rattle.checker.specs.Check.{turnOf, left, begin, follow}
-use Rattle.checker.specs.Plan.{PlanStep, isKind, lengthFits, closing, planOf}
+use Rattle.checker.specs.Plan.{PlanStep, isKind, lengthFits, planOf}
 use Rattle.checker.specs.Questions.{BUFFER, PLAN-RECORD}
 use Rattle.checker.proofs.Laws.Answer.{size-most}
 use Rattle.checker.proofs.Laws.Turns.{accepts-ends, ends-accepts, from, from-begin, from-turn}
 use Rattle.demands.specs.Compiled.{Running, State, Applies, Leads, none, then, initial, Solves}
 use Rattle.demands.specs.Demand2.{programOf, Solution, Demand2, CheckerRefusalKeeps}
-use Rattle.demands.proofs.Laws.Plan.{recordsOf, plan-records, records-more, closing-read, closing-written}
+use Rattle.demands.proofs.Laws.Plan.{stepRecords, plan-records, records-more, end-written}
 use Rattle.demands.proofs.Laws.Presets.{presets-hold}
 use Rattle.demands.proofs.Laws.Program.{Holds, holds-bytes}
 use Rattle.demands.proofs.Laws.Runs.{starting-started}
 use Rattle.demands.proofs.Laws.Steps.{Stands, turn-action, applies-turns}
 
-module _ (bytes : List ℕ) (t : Task) where
+module _ (bytes : List ℕ) (t : Layout) where
   -- one action more at the end
   leads-more : {s c d : State} {σ : List PlanStep} {a : PlanStep} → Leads bytes t s σ c → Applies bytes t a c d → Leads bytes t s (σ ++ (a ∷ [])) d
   leads-more none x = then x none
   leads-more (then y rest) x = then y (leads-more rest x)
 
-module _ (bytes plan : List ℕ) (t : Task) (passed : Passed bytes t) where
+module _ (bytes plan : List ℕ) (t : Layout) (passed : Passed bytes t) where
   -- a program that holds the lines of a state, with room for a whole program
   record Program (program : List ℕ) (final : State) : Type 0 where
     holds : Holds (t .index .bounds) program (final .lines)
@@ -64,7 +66,7 @@ module _ (bytes plan : List ℕ) (t : Task) (passed : Passed bytes t) where
     now : State
     leads : Leads bytes t (initial bytes t) steps now
     stands : Stands bytes t passed s now
-    form : plan ≡ recordsOf steps ++ drop (s .at) plan
+    form : plan ≡ stepRecords steps ++ drop (s .at) plan
     count : length steps ≡ s .position .steps
     bound : s .position .steps ≤ t .index .bounds .steps
 
@@ -86,11 +88,11 @@ module _ (bytes plan : List ℕ) (t : Task) (passed : Passed bytes t) where
       }
   come-keeps s come (stop answer) e = λ k program f.
       let x = accepts-ends bytes (t .index) (t .offsets) plan s k program (e ∙ ap stop f) in
-      let closes = closing-written plan (s .at) (x .kind) (x .body) (x .size) (x .next) (x .found) (x .fits) (x .closing) (x .end) in
+      let closes = end-written plan (s .at) (x .kind) (x .body) (x .size) (x .next) (x .found) (x .fits) (x .closing) (x .end) in
       record {
         steps = come .steps;
         final = come .now;
-        form = come .form ∙ ap (λ (l : List ℕ). recordsOf (come .steps) ++ l) closes ∙ sym (plan-records (come .steps));
+        form = come .form ∙ ap (λ (l : List ℕ). stepRecords (come .steps) ++ l) closes ∙ sym (plan-records (come .steps));
         count = come .count ∙ sym (x .count);
         bound = omega (arith, x .count, come .bound);
         solves = record { leads = come .leads; finished = omega (arith, ap (λ (r : Running). r .case) (come .stands .running), x .case) };
@@ -148,8 +150,8 @@ module _ (bytes plan : List ℕ) (t : Task) (passed : Passed bytes t) where
 
 -- a task that passes
 module _ (bytes plan : List ℕ) (v : ℕ) (e : readTask bytes .verdict ≡ Accepted v) where
-  abbrev t : Task
-  t = readTask bytes .task
+  abbrev t : Layout
+  t = readTask bytes .layout
 
   abbrev p : Passed bytes t
   p = passed bytes v e
@@ -166,7 +168,7 @@ module _ (bytes plan : List ℕ) (v : ℕ) (e : readTask bytes .verdict ≡ Acce
 
   -- what the plan comes to is accepted exactly if it has a solution
   follow-solved : (k : ℕ) (program : List ℕ) → follow bytes t plan ≡ accepted k program → Solved bytes plan t p k program
-  unfolding follow begin starting recordsOf
+  unfolding follow begin starting flatMap
   follow-solved =
       loop-keeps (Come bytes plan t p) (Sound bytes plan t p) (turnOf bytes (t .index) (t .offsets) plan) (left plan) (refused PLAN-RECORD 0)
       (λ s come. come-keeps bytes plan t p s come _ refl)
@@ -234,14 +236,14 @@ module _ (bytes plan buffer : List ℕ) (k : ℕ) (filled′ : List ℕ) (h : ch
   not-refused question place after g = refused-accepted (ap (λ (c : Answer). c .verdict) (sym g ∙ h))
 
   accepted-room : (v : ℕ) (e : readTask bytes .verdict ≡ Accepted v) (b : Bool)
-      → leb (programSize (readTask bytes .task .index .bounds)) (length buffer) ≡ b → Solution bytes plan buffer (readTask bytes .task) k filled′
+      → leb (programSize (readTask bytes .layout .index .bounds)) (length buffer) ≡ b → Solution bytes plan buffer (readTask bytes .layout) k filled′
   unfolding check.check passing answer
   accepted-room v e true f =
-      let room = leb-true (programSize (readTask bytes .task .index .bounds)) (length buffer) f in
+      let room = leb-true (programSize (readTask bytes .layout .index .bounds)) (length buffer) f in
       accepted-solution bytes plan v e buffer room k filled′ _ refl (sym (check-answers bytes plan v e buffer room) ∙ h)
   accepted-room v e false f = absurd (not-refused BUFFER 0 buffer (rw (e, f) refl))
 
-  accepted-passes : (v : Verdict) → readTask bytes .verdict ≡ v → Solution bytes plan buffer (readTask bytes .task) k filled′
+  accepted-passes : (v : Verdict) → readTask bytes .verdict ≡ v → Solution bytes plan buffer (readTask bytes .layout) k filled′
   unfolding check.check passing answer
   accepted-passes (Refused question place) e = absurd (not-refused question place buffer (rw e refl))
   accepted-passes (Accepted v) e = accepted-room v e _ refl

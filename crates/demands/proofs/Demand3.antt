@@ -16,7 +16,7 @@ use Rattle.task.specs.Instruction.{allowed, encode}
 use Rattle.task.specs.Program.{instructionOn, spelledOn}
 use Rattle.task.specs.Reading.{readTask}
 use Rattle.task.specs.declared.bounds.Bounds.{Bounds}
-use Rattle.task.specs.declared.index.Task.{Task}
+use Rattle.task.specs.declared.index.Layout.{Layout}
 use Rattle.task.specs.declared.instruction.Decoded.the-variants.{Is}
 use Rattle.task.specs.declared.instruction.Instruction.{Instruction}
 use Rattle.task.specs.declared.instruction.Triple.{Triple}
@@ -33,9 +33,9 @@ use Rattle.checker.specs.Check.{check}
 use Rattle.checker.specs.Plan.{PlanStep, planOf, planSize}
 use Rattle.checker.specs.Write.{start, run, programResult, onFinish, write}
 use Rattle.checker.proofs.Laws.Write.{run-start}
-use Rattle.demands.specs.Compiled.{Running, started, instructionAt, presetAt}
+use Rattle.demands.specs.Compiled.{Running, started, instructionAt, presetOn}
 use Rattle.demands.specs.Demand2.{lineOf, bytesFrom, programOf, Solution}
-use Rattle.demands.specs.Demand3.{endToEnd, stepsOf, bytesOn, isPreset, linesBack, Inside, WellFormed, SolvesCases, GivesProgram, FirstHalf, SecondHalf, OneRun, WriterRefusalKeeps}
+use Rattle.demands.specs.Demand3.{endToEnd, stepsOf, bytesOn, isPreset, linesBack, Inside, WellFormedProgram, SolvesCases, GivesProgram, FirstHalf, SecondHalf, OneRun, WriterRefusalKeeps}
 use Rattle.demands.proofs.Demand2.{demand-2, answer-keeps}
 use Rattle.demands.proofs.Laws.Cases.{from-all, all-from, chain-ends, ends-chain}
 use Rattle.demands.proofs.Laws.Finish.{steps-answer, filled-bytes, run-result, accepts-accepting}
@@ -49,7 +49,7 @@ use Rattle.demands.proofs.Laws.Runs.{starting-started}
 use Rattle.demands.proofs.Laws.Writes.{Stands, accepted-ran, followed-accepted}
 
 -- steps that may stand on their lines keep all lines allowed
-follows-allowed : (bytes : List ℕ) (t : Task) {lines last : Frame → Instruction} {r end : Running} {σ : List PlanStep}
+follows-allowed : (bytes : List ℕ) (t : Layout) {lines last : Frame → Instruction} {r end : Running} {σ : List PlanStep}
     → Follows (Taken bytes t) lines r σ last end → LinesAllowed (t .index .bounds) (t .index .actions) lines
     → LinesAllowed (t .index .bounds) (t .index .actions) last
 follows-allowed bytes t heart.none allows = allows
@@ -72,8 +72,8 @@ module _ (b : Bounds) (lines others : Frame → Instruction) (same : (f : Frame)
 
 -- a task that passes
 module _ (bytes : List ℕ) (v : ℕ) (e : readTask bytes .verdict ≡ Accepted v) where
-  abbrev t : Task
-  t = readTask bytes .task
+  abbrev t : Layout
+  t = readTask bytes .layout
 
   abbrev b : Bounds
   b = t .index .bounds
@@ -82,15 +82,15 @@ module _ (bytes : List ℕ) (v : ℕ) (e : readTask bytes .verdict ≡ Accepted 
   p = passed bytes v e
 
   -- the preset lines are those that hold something
-  presets-known : Knows (Inside b) (isPreset t) (presetAt bytes t)
+  presets-known : Knows (Inside b) (isPreset t) (presetOn bytes t)
   unfolding isPreset isFilled
   presets-known f h = ap (λ (x : Triple). ltb 0 (x .op)) (presets-hold bytes v e f h)
 
   -- a program whose bytes hold some lines, which extend the presets
   module _ (program : List ℕ) (lines : Frame → Instruction)
       (held : (f : Frame) → Inside b f → instructionOn (t .index) program (f .procedure) (f .line) ≡ Is (lines f))
-      (extends : Extends (Inside b) lines (presetAt bytes t)) where
-    start-stands : Stands t lines (start bytes (t .index) (t .presets)) (presetAt bytes t) (started bytes t 0)
+      (extends : Extends (Inside b) lines (presetOn bytes t)) where
+    start-stands : Stands t lines (start bytes (t .index) (t .presets)) (presetOn bytes t) (started bytes t 0)
     unfolding start
     start-stands =
         record {
@@ -102,8 +102,8 @@ module _ (bytes : List ℕ) (v : ℕ) (e : readTask bytes .verdict ≡ Accepted 
         }
 
     -- steps that are followed from the presets to the finish, and agree with the program, are what its run comes to
-    followed-result : {last : Frame → Instruction} {end : Running} {σ : List PlanStep} → WellFormed t program
-        → Follows (Taken bytes t) (presetAt bytes t) (started bytes t 0) σ last end → Agrees lines (visitsOf σ) → end .case ≡ t .index .cases
+    followed-result : {last : Frame → Instruction} {end : Running} {σ : List PlanStep} → WellFormedProgram t program
+        → Follows (Taken bytes t) (presetOn bytes t) (started bytes t 0) σ last end → Agrees lines (visitsOf σ) → end .case ≡ t .index .cases
         → length σ ≤ b .steps → programResult bytes program ≡ accepted (length σ) (planOf σ)
     unfolding start starting
     followed-result {σ = σ} formed follows agrees finished bound =
@@ -120,10 +120,10 @@ module _ (bytes : List ℕ) (v : ℕ) (e : readTask bytes .verdict ≡ Accepted 
     abbrev program : List ℕ
     program = programOf b lines
 
-    follows : Follows (Taken bytes t) (presetAt bytes t) (started bytes t 0) (x .steps) lines (x .final .running)
+    follows : Follows (Taken bytes t) (presetOn bytes t) (started bytes t 0) (x .steps) lines (x .final .running)
     follows = leads-follows bytes t (x .solves .leads)
 
-    extends : Extends (Inside b) lines (presetAt bytes t)
+    extends : Extends (Inside b) lines (presetOn bytes t)
     extends = follows-extends (Taken bytes t) (Inside b) follows
 
     lines-allowed : LinesAllowed b (t .index .actions) lines
@@ -138,9 +138,9 @@ module _ (bytes : List ℕ) (v : ℕ) (e : readTask bytes .verdict ≡ Accepted 
     -- a preset line is filled, so the lines have it at the end too
     presets-kept : (f : Frame) → Inside b f → isPreset t f ≡ true → encode (lines f) ≡ bytesOn b (t .presets) f
     presets-kept f h y =
-        ap encode (sym (extends f h (filled-not (presetAt bytes t f) (sym (presets-known f h) ∙ y)))) ∙ sym (presets-hold bytes v e f h)
+        ap encode (sym (extends f h (filled-not (presetOn bytes t f) (sym (presets-known f h) ∙ y)))) ∙ sym (presets-hold bytes v e f h)
 
-    formed : WellFormed t program
+    formed : WellFormedProgram t program
     formed = held-formed t program lines (program-holds b lines) (program-length b lines) lines-allowed presets-kept
 
     visits-few : length (visitsOf (x .steps)) ≤ b .steps
@@ -175,14 +175,14 @@ module _ (bytes : List ℕ) (v : ℕ) (e : readTask bytes .verdict ≡ Accepted 
         ∙ take-append-seam program (drop (programSize b) buffer)
 
   -- a program that is well formed holds its lines, which extend the presets
-  module _ (program : List ℕ) (formed : WellFormed t program) where
+  module _ (program : List ℕ) (formed : WellFormedProgram t program) where
     abbrev linesOf : Frame → Instruction
     linesOf = instructionAt b program
 
     lines-held : (f : Frame) → Inside b f → instructionOn (t .index) program (f .procedure) (f .line) ≡ Is (linesOf f)
     lines-held = line-held t program formed
 
-    presets-extended : Extends (Inside b) linesOf (presetAt bytes t)
+    presets-extended : Extends (Inside b) linesOf (presetOn bytes t)
     unfolding spelledOn
     presets-extended f h n = rw (formed .presets f h (presets-known f h ∙ filled-true _ n)) refl
 
@@ -193,7 +193,7 @@ module _ (bytes : List ℕ) (v : ℕ) (e : readTask bytes .verdict ≡ Accepted 
       run-good =
           let x =
           accepted-ran bytes t p program linesOf lines-held (start bytes (t .index) (t .presets))
-          (presetAt bytes t) (started bytes t 0) (start-stands program linesOf lines-held presets-extended)
+          (presetOn bytes t) (started bytes t 0) (start-stands program linesOf lines-held presets-extended)
           k plan (run-start bytes (t .index) (t .offsets) program (t .presets) ∙ runs) in
           let few : length (visitsOf (x .steps)) ≤ b .steps = omega (arith, visits-length (x .steps), x .count, x .bound) in
           let cut = chain-ends bytes t p program linesOf lines-held {c = 0} (x .visits) (x .finished) (p .cases .0) few in
@@ -217,7 +217,7 @@ module _ (bytes : List ℕ) (v : ℕ) (e : readTask bytes .verdict ≡ Accepted 
     record Planned : Type 0 where
       last : Frame → Instruction
       end : Running
-      follows : Follows (Taken bytes t) (presetAt bytes t) (started bytes t 0) steps last end
+      follows : Follows (Taken bytes t) (presetOn bytes t) (started bytes t 0) steps last end
       lines-are : (f : Frame) → Inside b f → last f ≡ linesBack t program τ f
       agrees : Agrees (linesOf program (good .formed)) (visitsOf steps)
       finished : end .case ≡ t .index .cases
@@ -232,7 +232,7 @@ module _ (bytes : List ℕ) (v : ℕ) (e : readTask bytes .verdict ≡ Accepted 
         (omega (arith, good .count, good .bound)) in
         let x =
         chain-follows (Inside b) (Taken bytes t) (taken-inside bytes t) (taken-filled bytes t) (joined .chain)
-        (isPreset t) (presetAt bytes t) (presets-known) (presets-extended program (good .formed)) in
+        (isPreset t) (presetOn bytes t) (presets-known) (presets-extended program (good .formed)) in
         record {
           last = x .last;
           end = joined .end;
@@ -280,7 +280,7 @@ pub first-half : FirstHalf
 first-half bytes plan buffer k filled h =
     let x = demand-2 bytes plan buffer k filled .0 h in
     let e = x .passes in
-    subst (λ (program : List ℕ). GivesProgram bytes (readTask bytes .task) program plan k) (sym (filled-program bytes (x .value) e plan buffer k filled x))
+    subst (λ (program : List ℕ). GivesProgram bytes (readTask bytes .layout) program plan k) (sym (filled-program bytes (x .value) e plan buffer k filled x))
     (solution-gives bytes (x .value) e plan buffer k filled x)
 
 pub second-half : SecondHalf
@@ -301,8 +301,8 @@ second-half bytes program buffer v e enough =
           ≡ record {
             verdict = Accepted k;
             buffer =
-                programOf (readTask bytes .task .index .bounds) (linesBack (readTask bytes .task) program (endToEnd (good .traces)))
-                ++ drop (programSize (readTask bytes .task .index .bounds)) lent;
+                programOf (readTask bytes .layout .index .bounds) (linesBack (readTask bytes .layout) program (endToEnd (good .traces)))
+                ++ drop (programSize (readTask bytes .layout .index .bounds)) lent;
           })
           (sym
           (filled-bytes bytes program k (steps bytes v e program k good) (steps-count bytes v e program k good) (good-result bytes v e program k good) buffer
@@ -310,7 +310,7 @@ second-half bytes program buffer v e enough =
           (good-checks bytes v e program k good lent (fits _ (record { value = v; passes = e; asks = refl })));
     }
   where
-    room : (k : ℕ) → SolvesCases bytes (readTask bytes .task) program k → planSize k ≤ length buffer
+    room : (k : ℕ) → SolvesCases bytes (readTask bytes .layout) program k → planSize k ≤ length buffer
     room k good = enough (planSize k) (record { steps = k; solves = good; asks = refl })
 
 pub one-run : OneRun

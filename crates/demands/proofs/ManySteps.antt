@@ -73,7 +73,7 @@ module _ (bytes program : List ℕ) where
     by-steps (suc n) made s = by-next n made s (λ u. by-steps n (made + 1) u) (next s)
 
   abbrev i : Index
-  i = readTask bytes .task .index
+  i = readTask bytes .layout .index
 
   -- how the questions up to 31 let a call in: they turn it away as they do a single step, whatever the count, or every possible position comes to the
   -- steps themselves
@@ -94,7 +94,7 @@ module _ (bytes program : List ℕ) where
         (many-impossible bytes program r v b s false z refl)
     possible-entry v b true y = let-in (sym y) (λ u w n. many-runs bytes program r v b u true (sym w) refl n _ refl)
 
-    program-entry : (value : ℕ) → r .verdict ≡ Accepted value → (v : Verdict) → programVerdict i (r .task .presets) program ≡ v → Entry s
+    program-entry : (value : ℕ) → r .verdict ≡ Accepted value → (v : Verdict) → programVerdict i (r .layout .presets) program ≡ v → Entry s
     program-entry value h (Accepted own) g =
         possible-entry _ (record { read = refl; value = value; task = h; asked = refl; own = own; passes = g }) _ refl
     program-entry value h (Refused question place) g =

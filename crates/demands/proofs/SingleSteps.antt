@@ -12,7 +12,7 @@ use Rattle.records.specs.Loop.{Turn, stop, go}
 use Rattle.records.proofs.Laws.Loop.{Keeps, loop-keeps}
 use Rattle.task.specs.Program.{programVerdict}
 use Rattle.task.specs.Reading.{readTask}
-use Rattle.task.specs.declared.index.Task.{Task}
+use Rattle.task.specs.declared.index.Layout.{Layout}
 use Rattle.task.specs.declared.verdict.Verdict.the-variants.{Accepted}
 use Rattle.task.proofs.Laws.Passed.{Passed, passed}
 use Rattle.step.specs.Perform.{runStep, answered}
@@ -33,9 +33,9 @@ use Rattle.demands.proofs.Laws.Finish.{accepts-accepting}
 
 -- a task and a program that pass
 module _ (bytes program : List ℕ) (v p : ℕ) (h : readTask bytes .verdict ≡ Accepted v)
-    (g : programVerdict (readTask bytes .task .index) (readTask bytes .task .presets) program ≡ Accepted p) where
-  abbrev t : Task
-  t = readTask bytes .task
+    (g : programVerdict (readTask bytes .layout .index) (readTask bytes .layout .presets) program ≡ Accepted p) where
+  abbrev t : Layout
+  t = readTask bytes .layout
 
   abbrev passes : Passed bytes t
   passes = passed bytes v h

@@ -4,23 +4,23 @@
 -- line, which must be empty, and runs it; the other runs it again where it stands. All of it is said by rules, one for each way that an action
 -- can go. As docs/FORMATS.md rules and the papers do not, a clash stops the run, the last case's goal is asked at its end, nothing applies after
 -- the finish, lines may be preset, any procedure may be called, and a goto may name its own line.
--- `bytes` are the task's, `t` what was read from them.
+-- `bytes` are the task's, `t` their layout.
 use Prim.Native.Nat.{ℕ, _+_, _<_}
 use mathlib.Core.Path.{_≡_}
 use mathlib.Core.Bool.{true, false, cond}
 use mathlib.Core.List.{List, [], _∷_}
 use lib.ListN.{length, getD}
-use Rattle.task.specs.Index.{actionAt, caseAt}
+use Rattle.task.specs.Index.{actionAt, effectsOf, caseAt}
 use Rattle.task.specs.Instruction.{allowed}
 use Rattle.task.specs.Program.{spelledOn}
 use Rattle.task.specs.declared.bounds.Bounds.{Bounds}
 use Rattle.task.specs.declared.index.Case.{Case}
-use Rattle.task.specs.declared.index.Task.{Task}
+use Rattle.task.specs.declared.index.Layout.{Layout}
 use Rattle.task.specs.declared.instruction.Line.{Line}
 use Rattle.task.specs.declared.instruction.Proc.{Proc}
 use Rattle.task.specs.declared.instruction.Instruction.{Instruction}
 use Rattle.task.specs.declared.instruction.Instruction.the-variants.{Empty, Act, Goto, Call, End}
-use Rattle.step.specs.Effects.{effectsOf, changesOf, clashFree, changed}
+use Rattle.step.specs.Effects.{changesOf, clashFree, changed}
 use Rattle.step.specs.Facts.{has, holds}
 use Rattle.step.specs.Position.{sameFrame}
 use Rattle.step.specs.declared.position.Frame.{Frame}
@@ -54,7 +54,7 @@ writtenAt lines f w g = cond (sameFrame f g) w (lines g)
 abbrev pub instructionAt : Bounds → List ℕ → Frame → Instruction
 instructionAt b program f = spelledOn b program (f .procedure) (f .line)
 
-module _ (bytes : List ℕ) (t : Task) where
+module _ (bytes : List ℕ) (t : Layout) where
   -- case number c: the facts true at its start, and its goal
   abbrev caseOf : ℕ → Case
   caseOf c = caseAt bytes (t .index .first) c
@@ -133,12 +133,12 @@ module _ (bytes : List ℕ) (t : Task) where
     then : {s u v : State} {a : PlanStep} {rest : List PlanStep} → Applies a s u → Leads u rest v → Leads s (a ∷ rest) v
 
   -- the instruction that a line of the program is preset to, empty where it is not
-  abbrev pub presetAt : Frame → Instruction
-  presetAt = instructionAt (t .index .bounds) (t .presets)
+  abbrev pub presetOn : Frame → Instruction
+  presetOn = instructionAt (t .index .bounds) (t .presets)
 
   -- the initial state: the preset lines, and the first case from its start
   abbrev pub initial : State
-  initial = record { lines = presetAt; running = started 0 }
+  initial = record { lines = presetOn; running = started 0 }
 
   -- the steps solve the task, and end in a state: all cases are finished there
   pub record Solves (steps : List PlanStep) (final : State) : Type 0 where

@@ -9,7 +9,7 @@ use Rattle.task.specs.Bounds.{lineCount, programSize}
 use Rattle.task.specs.Instruction.{encode}
 use Rattle.task.specs.Reading.{readTask}
 use Rattle.task.specs.declared.bounds.Bounds.{Bounds}
-use Rattle.task.specs.declared.index.Task.{Task}
+use Rattle.task.specs.declared.index.Layout.{Layout}
 use Rattle.task.specs.declared.instruction.Instruction.{Instruction}
 use Rattle.task.specs.declared.verdict.Verdict.the-variants.{Accepted, Refused}
 use Rattle.step.specs.declared.position.Frame.{Frame}
@@ -34,7 +34,7 @@ programOf b lines = bytesFrom b lines 0 (lineCount b)
 
 -- a plan that is to be accepted: the task passes, the buffer is long enough, and the plan's bytes are k steps, at most S, that solve the compiled
 -- task; the buffer then begins with the final state's program, and its other bytes keep their value
-pub record Solution (bytes plan buffer : List ℕ) (t : Task) (k : ℕ) (filled : List ℕ) : Type 0 where
+pub record Solution (bytes plan buffer : List ℕ) (t : Layout) (k : ℕ) (filled : List ℕ) : Type 0 where
   pub value : ℕ
   pub passes : readTask bytes .verdict ≡ Accepted value
   pub room : programSize (t .index .bounds) ≤ length buffer
@@ -50,7 +50,7 @@ pub record Solution (bytes plan buffer : List ℕ) (t : Task) (k : ℕ) (filled 
 abbrev pub Demand2 : Type 0
 Demand2 =
     (bytes plan buffer : List ℕ) (k : ℕ) (filled : List ℕ)
-    → (check bytes plan buffer ≡ record { verdict = Accepted k; buffer = filled }) ↔ Solution bytes plan buffer (readTask bytes .task) k filled
+    → (check bytes plan buffer ≡ record { verdict = Accepted k; buffer = filled }) ↔ Solution bytes plan buffer (readTask bytes .layout) k filled
 
 -- and a refusal leaves the buffer as it was
 abbrev pub CheckerRefusalKeeps : Type 0

@@ -13,7 +13,7 @@ use Rattle.task.specs.Bounds.{programSize}
 use Rattle.task.specs.Program.{lineBytes, instructionOn, isInstruction}
 use Rattle.task.specs.Reading.{readTask}
 use Rattle.task.specs.declared.bounds.Bounds.{Bounds}
-use Rattle.task.specs.declared.index.Task.{Task}
+use Rattle.task.specs.declared.index.Layout.{Layout}
 use Rattle.task.specs.declared.instruction.Instruction.{Instruction}
 use Rattle.task.specs.declared.instruction.Instruction.the-variants.{Empty}
 use Rattle.task.specs.declared.instruction.Triple.{Triple}
@@ -36,7 +36,7 @@ LongEnough Asked buffer = (size : ℕ) → Asked size → size ≤ length buffer
 pub record Asked10 (bytes : List ℕ) (size : ℕ) : Type 0 where
   pub value : ℕ
   pub passes : readTask bytes .verdict ≡ Accepted value
-  pub asks : size ≡ programSize (readTask bytes .task .index .bounds)
+  pub asks : size ≡ programSize (readTask bytes .layout .index .bounds)
 
 -- traces laid end to end
 unfoldable pub endToEnd : List (List Visit) → List Visit
@@ -60,11 +60,11 @@ abbrev pub bytesOn : Bounds → List ℕ → Frame → Triple
 bytesOn b program f = lineBytes b program (f .procedure) (f .line)
 
 -- whether a line is preset
-unfoldable pub isPreset : Task → Frame → Bool
+unfoldable pub isPreset : Layout → Frame → Bool
 isPreset t f = ltb 0 (bytesOn (t .index .bounds) (t .presets) f .op)
 
 -- the lines that a plan gives back: the program's instruction where a line is preset or visited, and empty elsewhere
-unfoldable pub linesBack : Task → List ℕ → List Visit → Frame → Instruction
+unfoldable pub linesBack : Layout → List ℕ → List Visit → Frame → Instruction
 linesBack t program visits f = cond (isPreset t f || visited visits f) (instructionAt (t .index .bounds) program f) Empty
 
 -- a frame whose procedure and line a program has
@@ -74,13 +74,13 @@ pub record Inside (b : Bounds) (f : Frame) : Type 0 where
 
 -- a program that passes its own questions, 25 to 27: it has its full length; each line's instruction is allowed there, or empty; and each
 -- preset line holds its preset
-pub record WellFormed (t : Task) (program : List ℕ) : Type 0 where
+pub record WellFormedProgram (t : Layout) (program : List ℕ) : Type 0 where
   pub size : length program ≡ programSize (t .index .bounds)
   pub lines : (f : Frame) → Inside (t .index .bounds) f → isInstruction (instructionOn (t .index) program (f .procedure) (f .line)) ≡ true
   pub presets : (f : Frame) → Inside (t .index .bounds) f → isPreset t f ≡ true
       → bytesOn (t .index .bounds) program f ≡ bytesOn (t .index .bounds) (t .presets) f
 
-module _ (bytes : List ℕ) (t : Task) (program : List ℕ) where
+module _ (bytes : List ℕ) (t : Layout) (program : List ℕ) where
   -- a program ends every case in its goal, each by itself: trace number c has the steps of its run on case c
   pub record EndsAll (traces : List (List Visit)) : Type 0 where
     pub cases : length traces ≡ t .index .cases
@@ -88,7 +88,7 @@ module _ (bytes : List ℕ) (t : Task) (program : List ℕ) where
 
   -- a program that the writer is to accept with k: it is well formed, ends every case in its goal, and the runs' steps together are k, at most S
   pub record SolvesCases (k : ℕ) : Type 0 where
-    pub formed : WellFormed t program
+    pub formed : WellFormedProgram t program
     pub traces : List (List Visit)
     pub runs : EndsAll traces
     pub count : length (endToEnd traces) ≡ k
@@ -124,20 +124,20 @@ abbrev pub FirstHalf : Type 0
 FirstHalf =
     (bytes plan buffer : List ℕ) (k : ℕ) (filled : List ℕ)
     → check bytes plan buffer ≡ record { verdict = Accepted k; buffer = filled }
-    → GivesProgram bytes (readTask bytes .task) (take (programSize (readTask bytes .task .index .bounds)) filled) plan k
+    → GivesProgram bytes (readTask bytes .layout) (take (programSize (readTask bytes .layout .index .bounds)) filled) plan k
 
 -- for every task that passes, all bytes as program and every buffer that is long enough
 abbrev pub SecondHalf : Type 0
 SecondHalf =
     (bytes program buffer : List ℕ) (value : ℕ)
     → readTask bytes .verdict ≡ Accepted value
-    → LongEnough (Asked29 bytes (readTask bytes .task) program) buffer
-    → GivesPlan bytes (readTask bytes .task) program buffer
+    → LongEnough (Asked29 bytes (readTask bytes .layout) program) buffer
+    → GivesPlan bytes (readTask bytes .layout) program buffer
 
 -- a run is determined: the steps that it makes on a case by itself are one list
 abbrev pub OneRun : Type 0
 OneRun =
-    (bytes : List ℕ) (t : Task) (program : List ℕ) (c : ℕ) (σ τ : List Visit)
+    (bytes : List ℕ) (t : Layout) (program : List ℕ) (c : ℕ) (σ τ : List Visit)
     → EndsCase bytes (t .index) (t .offsets) program c σ → EndsCase bytes (t .index) (t .offsets) program c τ → σ ≡ τ
 
 -- and a refusal of the writer leaves the buffer as it was

@@ -14,13 +14,13 @@ use Rattle.checker.specs.Write.{write}
 module _ (bytes program : List ℕ) where
   -- the record after so many single steps; a fresh one is at the first case's start
   unfoldable pub recordAfter : ℕ → Position
-  recordAfter zero = starting 0 (caseAt bytes (readTask bytes .task .index .first) 0 .start)
+  recordAfter zero = starting 0 (caseAt bytes (readTask bytes .layout .index .first) 0 .start)
   recordAfter (suc j) = singleStep bytes program (recordAfter j) .position
 
   -- each of k single steps is made, and they reach the finish: all cases, no frame, k steps done
   pub record Reaches (k : ℕ) : Type 0 where
     pub made : (j : ℕ) → j < k → singleStep bytes program (recordAfter j) .verdict ≡ Accepted 1
-    pub case : recordAfter k .case ≡ readTask bytes .task .index .cases
+    pub case : recordAfter k .case ≡ readTask bytes .layout .index .cases
     pub depth : recordAfter k .depth ≡ 0
     pub steps : recordAfter k .steps ≡ k
 

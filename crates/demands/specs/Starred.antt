@@ -1,22 +1,19 @@
 -- The starred cases of the double-click task, *1 to *13, as one table: what is asked of the checker or of the writer, and the answer, with the
--- whole buffer afterwards. Tasks, plans and programs are built from named pieces, so that each case is seen to be one change of the good one.
+-- whole buffer afterwards. Tasks, plans and programs are built from named pieces, so that each case is seen to be one change of the good one. The double-click
+-- task stands here as a value too, with these bytes.
 use Prim.Native.Nat.{ℕ}
 use mathlib.Core.Path.{_≡_}
 use mathlib.Core.List.{List, [], _∷_, _++_, map}
 use lib.ListN.{length, replicate}
+use Rattle.records.specs.Record.{recordBytes, closing}
+use Rattle.task.specs.Task.{Task}
+use Rattle.task.specs.TaskAt.{taskOf}
 use Rattle.task.specs.declared.verdict.Verdict.{Verdict}
 use Rattle.task.specs.declared.verdict.Verdict.the-variants.{Accepted, Refused}
+use Rattle.task_file.specs.Bytes.{taskBytes}
 use Rattle.checker.specs.Answer.{Answer}
 use Rattle.checker.specs.Check.{check}
 use Rattle.checker.specs.Write.{write}
-
--- a record: the body's length, here always below 256, the kind, and the body
-abbrev pub recordBytes : ℕ → List ℕ → List ℕ
-recordBytes kind body = length body ∷ 0 ∷ kind ∷ 0 ∷ body
-
--- the closing record, of a task as of a plan
-abbrev pub close : List ℕ
-close = recordBytes 5 []
 
 -- a set of facts below 8, as 8 bytes. Fact 0 is open and fact 1 is bib, so {} is 0, {open} is 1 and {bib} is 2
 abbrev pub facts : ℕ → List ℕ
@@ -35,13 +32,35 @@ abbrev pub caseFrom : ℕ → List ℕ
 caseFrom start = recordBytes 4 (facts start ++ pair 2 1)
 
 -- F 2, b 1, n 2, m 1 and the step bound; action 0, which needs open, with its effects; the cases
-abbrev pub taskOf : ℕ → List ℕ → List ℕ
-taskOf steps effects =
-    recordBytes 1 (2 ∷ 1 ∷ 2 ∷ 1 ∷ steps ∷ 0 ∷ []) ++ recordBytes 2 (pair 1 0 ++ effects) ++ caseFrom 1 ++ caseFrom 2 ++ close
+abbrev pub taskWith : ℕ → List ℕ → List ℕ
+taskWith steps effects =
+    recordBytes 1 (2 ∷ 1 ∷ 2 ∷ 1 ∷ steps ∷ 0 ∷ []) ++ recordBytes 2 (pair 1 0 ++ effects) ++ caseFrom 1 ++ caseFrom 2 ++ closing
 
 -- the double-click task: S 5, and one effect, which raises bib and lowers open
 abbrev pub doubleClick : List ℕ
-doubleClick = taskOf 5 (effect 2 1)
+doubleClick = taskWith 5 (effect 2 1)
+
+-- the same, as a task
+abbrev pub doubleClickTask : Task
+doubleClickTask =
+    record {
+      bounds = record { facts = 2; procedures = 1; last = 2; stack = 1; steps = 5 };
+      actions =
+          record {
+            precondition = record { positive = 1; negative = 0 };
+            effects = record { condition = record { positive = 0; negative = 0 }; raised = 2; lowered = 1 } ∷ [];
+          }
+          ∷ [];
+      presets = [];
+      cases =
+          record { start = 1; goal = record { positive = 2; negative = 1 } }
+          ∷ record { start = 2; goal = record { positive = 2; negative = 1 } }
+          ∷ [];
+    }
+
+-- its bytes are these, and `taskOf` gives it back
+abbrev pub DoubleClick : Type 0
+DoubleClick = (taskBytes doubleClickTask ≡ doubleClick) × (taskOf doubleClick ≡ doubleClickTask)
 
 -- the instructions
 abbrev pub empty : List ℕ
@@ -84,7 +103,7 @@ abbrev pub fifth : List ℕ
 fifth = step 17 2 end
 
 abbrev pub goodPlan : List ℕ
-goodPlan = first ++ second ++ third ++ fourth ++ fifth ++ close
+goodPlan = first ++ second ++ third ++ fourth ++ fifth ++ closing
 
 -- this plan's bytes as docs/FORMATS.md prints them
 abbrev pub printed : List ℕ
@@ -120,19 +139,19 @@ unfoldable pub table : List (Request × Verdict × List ℕ)
 table =
     (checks doubleClick goodPlan (lent 10), Accepted 5, goodProgram ++ lent 1)  -- *1
     ∷ (writes doubleClick goodProgram (lent 50), Accepted 5, goodPlan ++ lent 1)  -- *1
-    ∷ (checks (taskOf 4 (effect 2 1)) goodPlan (lent 10), Refused 14 36, lent 10)  -- *2
-    ∷ (writes (taskOf 4 (effect 2 1)) goodProgram (lent 50), Refused 14 4, lent 50)  -- *2
-    ∷ (checks doubleClick (first ++ second ++ third ++ step 16 0 (goto 2 0) ++ fifth ++ close) (lent 10), Refused 18 27, lent 10)  -- *3
-    ∷ (checks doubleClick (first ++ second ++ third ++ fourth ++ close) (lent 10), Refused 23 36, lent 10)  -- *4
-    ∷ (checks doubleClick (first ++ third ++ fourth ++ fifth ++ close) (lent 10), Refused 17 9, lent 10)  -- *5
+    ∷ (checks (taskWith 4 (effect 2 1)) goodPlan (lent 10), Refused 14 36, lent 10)  -- *2
+    ∷ (writes (taskWith 4 (effect 2 1)) goodProgram (lent 50), Refused 14 4, lent 50)  -- *2
+    ∷ (checks doubleClick (first ++ second ++ third ++ step 16 0 (goto 2 0) ++ fifth ++ closing) (lent 10), Refused 18 27, lent 10)  -- *3
+    ∷ (checks doubleClick (first ++ second ++ third ++ fourth ++ closing) (lent 10), Refused 23 36, lent 10)  -- *4
+    ∷ (checks doubleClick (first ++ third ++ fourth ++ fifth ++ closing) (lent 10), Refused 17 9, lent 10)  -- *5
     ∷ (checks doubleClick (goodPlan ++ (0 ∷ [])) (lent 10), Refused 24 49, lent 10)  -- *6
-    ∷ (checks doubleClick (step 16 0 end ++ second ++ third ++ fourth ++ fifth ++ close) (lent 10), Refused 15 0, lent 10)  -- *7
-    ∷ (checks doubleClick (step 16 0 (call 0) ++ second ++ third ++ fourth ++ fifth ++ close) (lent 10), Refused 21 0, lent 10)  -- *8
+    ∷ (checks doubleClick (step 16 0 end ++ second ++ third ++ fourth ++ fifth ++ closing) (lent 10), Refused 15 0, lent 10)  -- *7
+    ∷ (checks doubleClick (step 16 0 (call 0) ++ second ++ third ++ fourth ++ fifth ++ closing) (lent 10), Refused 21 0, lent 10)  -- *8
     ∷ (checks doubleClick [] (lent 10), Refused 11 0, lent 10)  -- *9
     ∷ (writes doubleClick (goto 2 0 ++ empty ++ end) (lent 50), Refused 28 1, lent 50)  -- *10
     ∷ (writes doubleClick (act 0 ++ end ++ empty) (lent 50), Refused 19 2, lent 50)  -- *11
     ∷ (writes doubleClick (goto 2 0 ++ goto 2 1 ++ end) (lent 50), Refused 22 2, lent 50)  -- *12
-    ∷ (checks (taskOf 5 (effect 2 1 ++ effect 1 0)) goodPlan (lent 10), Refused 20 9, lent 10)  -- *13
+    ∷ (checks (taskWith 5 (effect 2 1 ++ effect 1 0)) goodPlan (lent 10), Refused 20 9, lent 10)  -- *13
     ∷ []
 
 -- the definitions' answers to the requests are the table's

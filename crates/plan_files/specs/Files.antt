@@ -29,7 +29,7 @@ checkFiles task plan buffer =
 unfoldable pub printed : List ℕ → List ℕ → List ℕ
 printed task plan =
     let checked = checkFiles task plan (replicate 768 0) in
-    reportText (checked .verdict) (readTask task .task .index) (checked .buffer)
+    reportText (checked .verdict) (readTask task .layout .index) (checked .buffer)
 
 -- whatever the files are, the program's text has room for what is printed
 abbrev pub PrintedFits : Type 0

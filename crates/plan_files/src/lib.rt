@@ -51,7 +51,7 @@ pub fn print_check(task: &[u8], plan: &[u8], text: &mut [u8]) -> usize
 {
     let mut program = [0u8; 768];
     let verdict = check_bytes(task, plan, &mut program);
-    let read = read_task(task).task;
+    let read = read_task(task).layout;
     report(verdict, read.index, &program, text)
 }
 

@@ -1,21 +1,11 @@
 -- What an action does, fact by fact. Every condition is tested in the state before the action, and the effects whose conditions are met
 -- there fire, all at once: what they raise is true afterwards, what they lower is false, and a fact that none of them names stays as it was.
-use Prim.Native.Nat.{ℕ, zero, suc}
+use Prim.Native.Nat.{ℕ}
 use mathlib.Core.List.{List, [], _∷_}
 use mathlib.Core.Bool.{Bool, false, cond, not, _&&_, _||_}
-use Rattle.task.specs.Index.{actionAt, effectAt}
 use Rattle.task.specs.declared.index.Effect.{Effect}
 use Rattle.step.specs.Facts.{has, setOf, every, holds}
 use Rattle.step.specs.declared.effects.Changes.{Changes}
-
--- of the action whose record is at an offset, the effects from number e on, `left` of them
-unfoldable pub effectsFrom : List ℕ → ℕ → ℕ → ℕ → List Effect
-effectsFrom bytes at e zero = []
-effectsFrom bytes at e (suc left) = effectAt bytes at e ∷ effectsFrom bytes at (suc e) left
-
--- all its effects
-unfoldable pub effectsOf : List ℕ → ℕ → List Effect
-effectsOf bytes at = effectsFrom bytes at 0 (actionAt bytes at .effects)
 
 -- the effects that fire: those whose conditions hold in the state
 unfoldable pub fired : ℕ → List Effect → List Effect

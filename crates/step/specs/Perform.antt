@@ -1,12 +1,12 @@
 -- One step: one instruction at a position. The step stops with the number of the first question that says no, or goes to the next
--- position, with one step more done. `bytes` are the task's, `i` and `offsets` what was read from them.
+-- position, with one step more done. `bytes` are the task's, `i` and `offsets` parts of their layout.
 use Prim.Native.Nat.{ℕ, _+_}
 use mathlib.Core.List.{List}
 use mathlib.Core.Bool.{cond}
 use lib.ListN.{getD}
 use lib.Dec.{ltb}
 use Rattle.records.specs.Loop.{Turn, stop, go, ask}
-use Rattle.task.specs.Index.{actionAt, caseAt}
+use Rattle.task.specs.Index.{actionAt, effectsOf, caseAt}
 use Rattle.task.specs.Program.{instructionOn}
 use Rattle.task.specs.declared.index.Index.{Index}
 use Rattle.task.specs.declared.instruction.Line.{Line}
@@ -17,7 +17,7 @@ use Rattle.task.specs.declared.instruction.Decoded.{Decoded}
 use Rattle.task.specs.declared.instruction.Decoded.the-variants.{Is, Nothing}
 use Rattle.task.specs.declared.verdict.Verdict.{Verdict}
 use Rattle.task.specs.declared.verdict.Verdict.the-variants.{Accepted, Refused}
-use Rattle.step.specs.Effects.{effectsOf, changesOf, clashFree, changed}
+use Rattle.step.specs.Effects.{changesOf, clashFree, changed}
 use Rattle.step.specs.Facts.{has, holds}
 use Rattle.step.specs.Position.{top, jumped, advanced, pushed, popped, withFacts, nextCase, finished, counted}
 use Rattle.step.specs.Questions.{STEPS, PRECONDITION, CLASH, STACK, GOAL, EMPTY}

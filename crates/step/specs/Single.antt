@@ -32,7 +32,7 @@ stepOnce bytes i offsets program s =
 unfoldable pub onReading : List ℕ → List ℕ → Position → Reading → Stepped
 onReading bytes program s r =
     following s (r .verdict)
-    (following s (programVerdict (r .task .index) (r .task .presets) program) (stepOnce bytes (r .task .index) (r .task .offsets) program s))
+    (following s (programVerdict (r .layout .index) (r .layout .presets) program) (stepOnce bytes (r .layout .index) (r .layout .offsets) program s))
 
 -- the single step
 unfoldable pub singleStep : List ℕ → List ℕ → Position → Stepped

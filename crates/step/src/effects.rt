@@ -5,8 +5,8 @@ use task::index::effect_at;
 ghost use mathlib.Core.Path.{_≡_};
 ghost use Prim.Native.Nat.{_+_, _*_, _≤_};
 ghost use lib.ListN.{length};
-ghost use Rattle.task.specs.Index.{actionAt};
-ghost use Rattle.step.specs.Effects.{effectsOf, changesOf};
+ghost use Rattle.task.specs.Index.{actionAt, effectsOf};
+ghost use Rattle.step.specs.Effects.{changesOf};
 
 // The facts that fired effects raise, and those that they lower.
 pub struct Changes {

@@ -60,7 +60,7 @@ pub fn single_step(task: &[u8], program: &[u8], position: Position) -> Stepped
     let Verdict::Accepted { value: _ } = verdict else {
         return Stepped { verdict, position };
     };
-    let read = reading.task;
+    let read = reading.layout;
     let index = read.index;
     let checked = check_program(index, &read.presets, program);
     let Verdict::Accepted { value: _ } = checked else {

@@ -235,7 +235,7 @@ fn write_beside(task: &[u8], program: &[u8]) {
         return;
     }
     let reading = read_task(task);
-    let read = reading.task;
+    let read = reading.layout;
     write_to_the_finish(task, program, &plan, steps, read.index);
 }
 

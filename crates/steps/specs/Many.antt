@@ -42,8 +42,8 @@ module _ (bytes program : List ℕ) where
   manyOnReading count s r =
       onward 0 s (r .verdict)
       (λ value.
-      onward 0 s (programVerdict (r .task .index) (r .task .presets) program)
-      (λ own. cond (possible (r .task .index) s) (stepsFrom (capped count) 0 s) (takenTo (Refused POSSIBLE 0) 0 s)))
+      onward 0 s (programVerdict (r .layout .index) (r .layout .presets) program)
+      (λ own. cond (possible (r .layout .index) s) (stepsFrom (capped count) 0 s) (takenTo (Refused POSSIBLE 0) 0 s)))
 
   -- the call
   unfoldable pub manySteps : ℕ → Position → StepsTaken

@@ -27,13 +27,13 @@ unfoldable pub stoppedAt : ℕ → ℕ → Position → StepsTaken
 stoppedAt from question s =
     let made = s .steps - from in takenTo (cond (eqb question 0) (Accepted made) (Refused question (s .steps))) made s
 
--- a task and a program that passed, with what was read, and a possible position with all its frames
+-- a task and a program that passed, with the parts of the layout, and a possible position with all its frames
 pub record Admitted (bytes : List ℕ) (i : Index) (actions lines : List ℕ) (s : Position) : Type 0 where
   pub value : ℕ
   pub task : readTask bytes .verdict ≡ Accepted value
-  pub index : readTask bytes .task .index ≡ i
-  pub offsets : readTask bytes .task .offsets ≡ actions
+  pub index : readTask bytes .layout .index ≡ i
+  pub offsets : readTask bytes .layout .offsets ≡ actions
   pub checked : ℕ
-  pub program : programVerdict i (readTask bytes .task .presets) lines ≡ Accepted checked
+  pub program : programVerdict i (readTask bytes .layout .presets) lines ≡ Accepted checked
   pub possible : possible i s ≡ true
   pub frames : length (s .frames) ≡ 16

@@ -143,7 +143,7 @@ pub fn many_steps(task: &[u8], program: &[u8], count: u64, position: Position) -
     let Verdict::Accepted { value: _ } = verdict else {
         return refused(verdict, position);
     };
-    let read = reading.task;
+    let read = reading.layout;
     let index = read.index;
     let checked = check_program(index, &read.presets, program);
     let Verdict::Accepted { value: _ } = checked else {

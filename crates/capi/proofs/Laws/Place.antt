@@ -15,13 +15,13 @@ use Rattle.records.specs.Loop.{Turn, ask}
 use Rattle.records.specs.Numbers.{byteAt}
 use Rattle.records.proofs.Laws.Loop.{Keeps, ask-keeps}
 use Rattle.task.proofs.Laws.Bounds.{ranges}
-use Rattle.task.proofs.Laws.Instruction.{decoded-for, put-length}
+use Rattle.task.proofs.Laws.Instruction.{op-above, decoded-for, put-length}
 use Rattle.task.proofs.Laws.Triple.{put-here, put-other}
 use Rattle.task.proofs.Laws.Kept.{least, Kinds, reading-keeps}
 use Rattle.task.specs.Bounds.{boundsAt}
 use Rattle.task.specs.Instruction.{decodeFor, encode, tripleAt, withTriple}
 use Rattle.task.specs.Program.{lineOffset}
-use Rattle.task.specs.Reading.{State, noIndex, noTask, begin, refused, accepted, headerTurn, actionTurn, onPreset, presetTurn, caseTurn, closeTurn, readTask}
+use Rattle.task.specs.Reading.{State, noIndex, noLayout, begin, refused, accepted, headerTurn, actionTurn, onPreset, presetTurn, caseTurn, closeTurn, readTask}
 use Rattle.task.specs.Verdict.{valueOf}
 use Rattle.task.specs.declared.bounds.Bounds.{Bounds}
 use Rattle.task.specs.declared.instruction.Triple.{Triple}
@@ -83,7 +83,7 @@ record Small (s : State) : Type 0 where
   room : s .progress .at + 9 * free (s .presets) 256 + 276 * (64 - s .progress .index .actions) + 28 * (32 - s .progress .index .cases) ≤ most
 
 begin-small : Small begin
-unfolding begin noTask noIndex
+unfolding begin noLayout noIndex
 begin-small =
     record {
       size = length-replicate {A = ℕ} 768 0;
@@ -140,7 +140,7 @@ module _ (bytes : List ℕ) (s : State) (small : Small s) where
         let b = s .progress .index .bounds in
         let line = byteAt bytes start * (b .last + 1) + byteAt bytes (start + 1) in
         let below = line-below b (byteAt bytes start) (byteAt bytes (start + 1)) (small .procedures) (small .last) (d .procedure) (d .line) in
-        let written : 0 < encode w .op = rw (d .encodes) (d .op) in
+        let written = op-above w (d .nonempty) in
         let fewer = free-fewer (s .presets) line (encode w) (omega arith) (eqb-true _ 0 h) written 256 below in
         omega (arith, put-length (s .presets) (3 * line) (encode w))
 
@@ -157,11 +157,11 @@ module _ (bytes : List ℕ) (s : State) (small : Small s) where
   kinds-good =
       record {
         refusal = λ question. here;
-        header = λ f. header-good _ _ refl (small .first (f .low));
-        action = λ size f e l m r. action-good _ _ size (omega arith);
-        preset = λ f. preset-good _ _ refl;
+        header = λ f r. header-good _ _ refl (small .first (f .low));
+        action = λ size f r l m. action-good _ _ size (omega arith);
+        preset = λ f r. preset-good _ _ refl;
         case = λ f r. case-good _ _ refl;
-        close = λ f. close-good _ refl;
+        close = λ f r. close-good _ refl;
       }
 
 pub place-small : (bytes : List ℕ) → valueOf (readTask bytes .verdict) < 2 ^ 32

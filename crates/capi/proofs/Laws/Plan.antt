@@ -19,7 +19,7 @@ use Rattle.task.specs.Bounds.{programSize}
 use Rattle.task.specs.Reading.{readTask}
 use Rattle.task.specs.Verdict.{valueOf}
 use Rattle.task.specs.declared.index.Index.{Index}
-use Rattle.task.specs.declared.index.Task.{Task}
+use Rattle.task.specs.declared.index.Layout.{Layout}
 use Rattle.step.proofs.Laws.Perform.{steps-grow}
 use Rattle.step.specs.Position.{starting}
 use Rattle.checker.specs.Answer.{Result, refused, accepted}
@@ -57,7 +57,7 @@ module _ (bytes : List ℕ) (i : Index) (offsets plan : List ℕ) (bounded : i .
   turn-good (stop (refused question place)) e = omega (arith, refuses-near bytes i offsets plan s question place e)
   turn-good (stop (accepted steps program)) e = omega (arith, accepts-ends bytes i offsets plan s steps program e .count)
 
-follow-small : (bytes : List ℕ) (t : Task) (plan : List ℕ) → t .index .bounds .steps ≤ 4096 → Small (follow bytes t plan)
+follow-small : (bytes : List ℕ) (t : Layout) (plan : List ℕ) → t .index .bounds .steps ≤ 4096 → Small (follow bytes t plan)
 unfolding follow begin starting
 follow-small bytes t plan bounded =
     loop-keeps Read Small _ (left plan) _ (λ s small. turn-good bytes (t .index) (t .offsets) plan bounded s small _ refl) (omega arith) _ (omega arith)
@@ -65,7 +65,7 @@ follow-small bytes t plan bounded =
 pub plan-small : (bytes plan buffer : List ℕ) → valueOf (check bytes plan buffer .verdict) < 2 ^ 32
 unfolding check
 plan-small bytes plan buffer =
-    let t = readTask bytes .task in
+    let t = readTask bytes .layout in
     let size = programSize (t .index .bounds) in
     answer-small size buffer _
     (passing-small (readTask bytes .verdict) _ (place-small bytes)

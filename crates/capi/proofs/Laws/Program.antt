@@ -39,7 +39,7 @@ module _ (i : Index) (most : programSize (i .bounds) ≤ 768) where
       (λ e. omega arith)
 
 pub program-small : (bytes program : List ℕ) (value : ℕ) → readTask bytes .verdict ≡ Accepted value
-    → valueOf (programVerdict (readTask bytes .task .index) (readTask bytes .task .presets) program) < 2 ^ 32
+    → valueOf (programVerdict (readTask bytes .layout .index) (readTask bytes .layout .presets) program) < 2 ^ 32
 program-small bytes program value e =
-    let t = readTask bytes .task in
+    let t = readTask bytes .layout in
     omega (arith, verdict-offset (t .index) (size-most (t .index .bounds) (passed bytes value e .bounded)) (t .presets) program)

@@ -49,7 +49,7 @@ module _ (s : Position) where
 pub step-small : (bytes program : List ℕ) (s : Position) → valueOf (singleStep bytes program s .verdict) < 2 ^ 32
 unfolding singleStep onReading
 step-small bytes program s =
-    let t = readTask bytes .task in
+    let t = readTask bytes .layout in
     following-small s (readTask bytes .verdict) _ (place-small bytes) λ value e.
     following-small s (programVerdict (t .index) (t .presets) program) _ (program-small bytes program value e) λ own f.
     once-small s bytes (t .index) (t .offsets) program (ranges (t .index .bounds) (passed bytes value e .bounded) .steps .1)

@@ -41,7 +41,7 @@ module _ (bytes program : List ℕ) where
   pub steps-small : (count : ℕ) (s : Position) → placeOf (manySteps bytes program count s .answer .verdict) < 2 ^ 32
   unfolding manySteps manyOnReading takenTo
   steps-small count s =
-      let t = readTask bytes .task in
+      let t = readTask bytes .layout in
       onward-near 0 s (readTask bytes .verdict) _ (place-small bytes) λ value e.
       onward-near 0 s (programVerdict (t .index) (t .presets) program) _ (program-small bytes program value e) λ own f.
       cond-either Near (possible (t .index) s) _ _ (λ y. from-near _ 0 s) (λ z. omega arith)

@@ -29,7 +29,7 @@ within-small bytes i offsets program (accepted steps plan) most h = omega arith
 result-small : (bytes program : List ℕ) → Small (programResult bytes program)
 unfolding programResult
 result-small bytes program =
-    let t = readTask bytes .task in
+    let t = readTask bytes .layout in
     passing-small (readTask bytes .verdict) _ (place-small bytes) λ value e.
     passing-small (programVerdict (t .index) (t .presets) program) (run bytes t program) (program-small bytes program value e) λ own f.
     within-small bytes (t .index) (t .offsets) program (run bytes t program) (ranges (t .index .bounds) (passed bytes value e .bounded) .steps .1)

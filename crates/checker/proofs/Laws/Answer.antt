@@ -14,7 +14,7 @@ use Rattle.task.specs.Bounds.{inRange, lineCount, programSize}
 use Rattle.task.specs.Program.{programVerdict}
 use Rattle.task.specs.Reading.{readTask}
 use Rattle.task.specs.declared.bounds.Bounds.{Bounds}
-use Rattle.task.specs.declared.index.Task.{Task}
+use Rattle.task.specs.declared.index.Layout.{Layout}
 use Rattle.task.specs.declared.reading.Reading.{Reading}
 use Rattle.task.specs.declared.verdict.Verdict.{Verdict}
 use Rattle.task.specs.declared.verdict.Verdict.the-variants.{Accepted, Refused}
@@ -46,12 +46,12 @@ unfolding check passing answer
 task-refused bytes plan buffer r e question place h = rw (h, ← e) (rw h)
 
 -- a task that passes, by its reading
-pub was-read : (bytes : List ℕ) (r : Reading) → r ≡ readTask bytes → (value : ℕ) → r .verdict ≡ Accepted value → ReadAs bytes (r .task)
+pub was-read : (bytes : List ℕ) (r : Reading) → r ≡ readTask bytes → (value : ℕ) → r .verdict ≡ Accepted value → ReadAs bytes (r .layout)
 was-read bytes r e value h =
-    record { value = value; verdict = sym (ap (λ (x : Reading). x .verdict) e) ∙ h; task = sym (ap (λ (x : Reading). x .task) e) }
+    record { value = value; verdict = sym (ap (λ (x : Reading). x .verdict) e) ∙ h; layout = sym (ap (λ (x : Reading). x .layout) e) }
 
 -- a plan, and a task that passes; `lines` is how many lines a program has
-module _ (bytes : List ℕ) (t : Task) (a : ReadAs bytes t) (lines : ℕ) (es : lines ≡ lineCount (t .index .bounds)) where
+module _ (bytes : List ℕ) (t : Layout) (a : ReadAs bytes t) (lines : ℕ) (es : lines ≡ lineCount (t .index .bounds)) where
   size : programSize (t .index .bounds) ≡ 3 * lines
   size = ap (λ (n : ℕ). 3 * n) (sym es)
 
@@ -62,7 +62,7 @@ module _ (bytes : List ℕ) (t : Task) (a : ReadAs bytes t) (lines : ℕ) (es : 
   module _ (plan buffer : List ℕ) where
     on-passed : answer (3 * lines) buffer (cond (leb (3 * lines) (length buffer)) (follow bytes t plan) (refused BUFFER 0)) ≡ check bytes plan buffer
     unfolding check passing
-    on-passed = rw (a .task, a .verdict, size) refl
+    on-passed = rw (a .layout, a .verdict, size) refl
 
     pub buffer-short : length buffer < 3 * lines → _≡_ {A = Answer} (record { verdict = Refused BUFFER 0; buffer = buffer }) (check bytes plan buffer)
     unfolding answer
@@ -84,7 +84,7 @@ module _ (bytes : List ℕ) (t : Task) (a : ReadAs bytes t) (lines : ℕ) (es : 
       plan-accepted steps k after g = rw (k, g) (rw k at answered)
 
 module _ (bytes program buffer : List ℕ) (r : Reading) (e : r ≡ readTask bytes) where
-  on-task : onFinish buffer (passing (r .verdict) (passing (programVerdict (r .task .index) (r .task .presets) program) (run bytes (r .task) program)))
+  on-task : onFinish buffer (passing (r .verdict) (passing (programVerdict (r .layout .index) (r .layout .presets) program) (run bytes (r .layout) program)))
       ≡ write bytes program buffer
   unfolding write programResult
   on-task = rw e refl
@@ -95,8 +95,8 @@ module _ (bytes program buffer : List ℕ) (r : Reading) (e : r ≡ readTask byt
   task-turned-down question place h = rw h (rw h at on-task)
 
   -- `v` is the program's own verdict
-  module _ (value : ℕ) (h : r .verdict ≡ Accepted value) (v : Verdict) (ev : v ≡ programVerdict (r .task .index) (r .task .presets) program) where
-    on-program : onFinish buffer (passing v (run bytes (r .task) program)) ≡ write bytes program buffer
+  module _ (value : ℕ) (h : r .verdict ≡ Accepted value) (v : Verdict) (ev : v ≡ programVerdict (r .layout .index) (r .layout .presets) program) where
+    on-program : onFinish buffer (passing v (run bytes (r .layout) program)) ≡ write bytes program buffer
     unfolding passing
     on-program = rw ev (rw h at on-task)
 
@@ -107,9 +107,9 @@ module _ (bytes program buffer : List ℕ) (r : Reading) (e : r ≡ readTask byt
 
     -- it passes: what the run requires, and the answer is the run's
     module _ (zero : ℕ) (k : v ≡ Accepted zero) where
-      pub runs-of : RunsOf bytes (r .task) program
+      pub runs-of : RunsOf bytes (r .layout) program
       runs-of = record { read = was-read bytes r e value h; value = zero; passes = sym ev ∙ k }
 
-      pub run-answers : onFinish buffer (run bytes (r .task) program) ≡ write bytes program buffer
+      pub run-answers : onFinish buffer (run bytes (r .layout) program) ≡ write bytes program buffer
       unfolding passing
       run-answers = rw k at on-program

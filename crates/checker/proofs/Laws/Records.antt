@@ -1,7 +1,7 @@
 -- The plan from the trace of a run. A step's record has its line's bytes; the records that are put one behind the other, and the closing one,
 -- fill the first bytes of the plan, and the others keep their value; question 29 comes first.
 -- Assumes nothing.
-use Prim.Native.Nat.{ℕ, _+_, _*_, _-_, _≤_, _<_}
+use Prim.Native.Nat.{ℕ, _+_, _*_, _-_, _/_, _%_, _≤_, _<_}
 use mathlib.Core.Path.{_≡_, refl, sym, ap, _∙_}
 use mathlib.Core.Bool.{Bool, true, false, cond}
 use mathlib.Core.List.{List, [], _∷_, _++_, append-assoc, append-nil}
@@ -11,7 +11,8 @@ use lib.ListN.{length, take, drop, getD, length-append, length-drop, drop-of-len
 use lib.Seq.{length-take-le, take-length, take-all, take-append-seam, drop-append-add, drop-drop}
 use mir.Val.{boolByte}
 use borrow.Author.Tests.{le-leb, lt-leb}
-use Rattle.records.specs.Numbers.{byteAt}
+use Rattle.records.specs.Numbers.{byteAt, numberBytes}
+use Rattle.records.specs.Record.{recordBytes, closing}
 use Rattle.task.specs.Instruction.{spelled, encode, tripleAt, withTriple}
 use Rattle.task.specs.Program.{lineOffset, spelledOn}
 use Rattle.task.specs.declared.bounds.Bounds.{Bounds}
@@ -23,7 +24,7 @@ use Rattle.task.proofs.Laws.Instruction.{encode-spelled}
 use Rattle.step.specs.declared.position.Frame.{Frame}
 use Rattle.checker.specs.Answer.{Answer, accepted, filled, answer}
 use Rattle.checker.specs.Check.{written}
-use Rattle.checker.specs.Plan.{kindOf, stepOf, recordOf, closing, planSize, instructionOf}
+use Rattle.checker.specs.Plan.{kindOf, stepOf, recordOf, planSize, instructionOf}
 use Rattle.checker.specs.Questions.{PLAN-BUFFER}
 use Rattle.checker.specs.Trace.{withBytes, stepAt, frameOf, linesWith, recordOn, linesAfter, recordsAfter}
 use Rattle.checker.specs.Write.{stepOn, onFinish}
@@ -101,18 +102,21 @@ module _ (b : Bounds) (program lines : List ℕ) (f : Frame) (offset : ℕ) (eo 
       (after ≡ linesWith b program lines f)
       × ((5 ∷ 0 ∷ number ∷ 0 ∷ f .procedure .0 ∷ f .line .0 ∷ t .op ∷ t .p ∷ t .q ∷ []) ≡ recordOn b program lines f)
 
-  leaves : (number : ℕ) → number ≡ kindOf step → (after : List ℕ) → after ≡ written lines offset step → Leaves number after
-  unfolding linesWith recordOn recordOf
-  leaves number en after e = (e ∙ rw (eo, is-step) refl, rw (← is-step, ← step-bytes, en) refl)
+  leaves : (number : ℕ) → number < 256 → number ≡ kindOf step → (after : List ℕ) → after ≡ written lines offset step → Leaves number after
+  unfolding linesWith recordOn recordOf recordBytes numberBytes
+  leaves number small en after e =
+      let low : number % 256 ≡ number = omega arith in
+      let high : number / 256 % 256 ≡ 0 = omega arith in
+      (e ∙ rw (eo, is-step) refl, rw (← is-step, ← step-bytes, ← en, low, high) refl)
 
   -- a write, and a repeat
   pub line-written : (v : Instruction) → step ≡ Write v → (after : List ℕ) → after ≡ withTriple lines offset t → Leaves 16 after
   unfolding written instructionOf kindOf
-  line-written v h after e = leaves 16 (rw h refl) after (e ∙ rw (step-bytes, h) refl)
+  line-written v h after e = leaves 16 (omega arith) (rw h refl) after (e ∙ rw (step-bytes, h) refl)
 
   pub line-repeated : (v : Instruction) → step ≡ Repeat v → Leaves 17 lines
   unfolding written kindOf
-  line-repeated v h = leaves 17 (rw h refl) lines (rw h refl)
+  line-repeated v h = leaves 17 (omega arith) (rw h refl) lines (rw h refl)
 
 module _ (b : Bounds) (program presets trace plan : List ℕ) where
   -- what holds behind `k` steps, of `lines` and the plan's bytes

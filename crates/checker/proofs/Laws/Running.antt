@@ -8,11 +8,12 @@ use mathlib.Core.List.{List, _++_}
 use native.Mathlib.Omega.{arith}
 use lib.ListN.{length, getD, set, length-set}
 use Rattle.records.specs.Loop.{stop, go}
+use Rattle.records.specs.Record.{closing}
 use Rattle.task.specs.Index.{caseAt}
 use Rattle.task.specs.Instruction.{allowed}
 use Rattle.task.specs.Program.{lineOffset, instructionOn, isInstruction}
 use Rattle.task.specs.declared.index.Index.{Index}
-use Rattle.task.specs.declared.index.Task.{Task}
+use Rattle.task.specs.declared.index.Layout.{Layout}
 use Rattle.task.specs.declared.instruction.Decoded.the-variants.{Is}
 use Rattle.task.specs.declared.instruction.Instruction.{Instruction}
 use Rattle.task.specs.declared.verdict.Verdict.the-variants.{Refused}
@@ -40,7 +41,6 @@ use Rattle.step.proofs.Laws.Possible.{parts, case-open}
 use Rattle.step.proofs.Laws.Ready.{passed-held, possible-depth}
 use Rattle.checker.specs.Answer.{Answer, accepted}
 use Rattle.checker.specs.Outcome.{RunsOf}
-use Rattle.checker.specs.Plan.{closing}
 use Rattle.checker.specs.Trace.{Spelled, recordsAfter}
 use Rattle.checker.specs.Write.{run, onFinish}
 use Rattle.checker.proofs.Laws.Answer.{size-most}
@@ -50,7 +50,7 @@ use Rattle.checker.proofs.Laws.Turns.{Standing, read-passed}
 use Rattle.checker.proofs.Laws.Write.{runFrom}
 
 -- what holds whenever the loop's test is reached; the last three, of the numbers that the loop's indices stay below
-pub record Running (bytes : List ℕ) (t : Task) (program trace : List ℕ) (h : Head) (callers : List Frame) : Type 0 where
+pub record Running (bytes : List ℕ) (t : Layout) (program trace : List ℕ) (h : Head) (callers : List Frame) : Type 0 where
   pub position : Position
   pub stands : Stands h callers position
   pub standing : Standing (t .index) position
@@ -62,7 +62,7 @@ pub record Running (bytes : List ℕ) (t : Task) (program trace : List ℕ) (h :
   pub deep : h .depth ≤ 16
   pub above : h .case < t .index .cases → 0 < h .depth
 
-module _ (bytes : List ℕ) (t : Task) (program : List ℕ) (of : RunsOf bytes t program) where
+module _ (bytes : List ℕ) (t : Layout) (program : List ℕ) (of : RunsOf bytes t program) where
   abbrev i : Index
   i = t .index
 

@@ -13,6 +13,7 @@ use lib.ListN.{length, getD, set, length-append}
 use lib.Seq.{getD-set-same, getD-set-other}
 use borrow.Author.Tests.{lt-ltb}
 use Rattle.records.specs.Loop.{Turn, stop, go, after}
+use Rattle.records.specs.Record.{closing}
 use Rattle.records.proofs.Laws.Tests.{cond-yes}
 use Rattle.task.specs.Index.{caseAt}
 use Rattle.task.specs.Instruction.{spelled}
@@ -26,7 +27,6 @@ use Rattle.step.specs.declared.position.Frame.{Frame}
 use Rattle.step.specs.declared.position.Position.{Position}
 use Rattle.step.proofs.Laws.Perform.{step-ran, ran-steps}
 use Rattle.checker.specs.Answer.{refused, accepted}
-use Rattle.checker.specs.Plan.{closing}
 use Rattle.checker.specs.Trace.{frameOf, SpelledAt, stepAt, linesWith, recordOn, Spelled, linesAfter, recordsAfter}
 use Rattle.checker.specs.Write.{Writing, onStep, writeTurn, start, run}
 use Rattle.checker.proofs.Laws.Check.{frame-is}

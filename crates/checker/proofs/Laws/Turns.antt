@@ -20,7 +20,7 @@ use Rattle.records.proofs.Laws.Tests.{cond-either}
 use Rattle.task.specs.Instruction.{decodeFor, tripleAt}
 use Rattle.task.specs.Program.{lineOffset}
 use Rattle.task.specs.declared.index.Index.{Index}
-use Rattle.task.specs.declared.index.Task.{Task}
+use Rattle.task.specs.declared.index.Layout.{Layout}
 use Rattle.task.specs.declared.instruction.Decoded.{Decoded}
 use Rattle.task.specs.declared.instruction.Decoded.the-variants.{Is, Nothing}
 use Rattle.task.specs.declared.instruction.Instruction.{Instruction}
@@ -225,11 +225,11 @@ abbrev pub Standing : Index → Position → Type 0
 Standing i p = (possible i p ≡ true) × (length (p .frames) ≡ 16)
 
 -- what holds of a task that passes
-pub read-passed : (bytes : List ℕ) (t : Task) → ReadAs bytes t → Passed bytes t
-read-passed bytes t r = rw (r .task) at (passed bytes (r .value) (r .verdict))
+pub read-passed : (bytes : List ℕ) (t : Layout) → ReadAs bytes t → Passed bytes t
+read-passed bytes t r = rw (r .layout) at (passed bytes (r .value) (r .verdict))
 
 -- a turn that goes on leads to a possible position again
-pub turn-stands : (bytes : List ℕ) (t : Task) → Passed bytes t → (plan : List ℕ) (s u : State) → Standing (t .index) (s .position)
+pub turn-stands : (bytes : List ℕ) (t : Layout) → Passed bytes t → (plan : List ℕ) (s u : State) → Standing (t .index) (s .position)
     → turnOf bytes (t .index) (t .offsets) plan s ≡ go u → Standing (t .index) (u .position)
 turn-stands bytes t passed plan s u h e =
     let w = goes-went bytes (t .index) (t .offsets) plan s u e in

@@ -12,12 +12,14 @@ use lib.Dec.{ltb}
 use lib.ListN.{length}
 use borrow.Author.Tests.{ltb-true, ltb-false, lt-ltb, le-ltb}
 use Rattle.records.specs.Loop.{Turn, stop, go, ask, after, loop}
+use Rattle.records.specs.Numbers.{numberBytes}
+use Rattle.records.specs.Record.{recordBytes, closing}
 use Rattle.records.proofs.Laws.Loop.{Keeps, unroll, loop-keeps}
 use Rattle.records.proofs.Laws.Tests.{cond-either, cond-yes}
 use Rattle.task.specs.Instruction.{tripleAt}
 use Rattle.task.specs.Program.{lineOffset, instructionOn}
 use Rattle.task.specs.declared.index.Index.{Index}
-use Rattle.task.specs.declared.index.Task.{Task}
+use Rattle.task.specs.declared.index.Layout.{Layout}
 use Rattle.task.specs.declared.instruction.Decoded.the-variants.{Is}
 use Rattle.task.specs.declared.instruction.Instruction.{Instruction}
 use Rattle.task.proofs.Laws.Passed.{Passed}
@@ -31,18 +33,18 @@ use Rattle.step.proofs.Laws.Perform.{steps-grow, step-ran}
 use Rattle.step.proofs.Laws.Possible.{parts, case-open}
 use Rattle.checker.specs.Answer.{Result, refused, accepted}
 use Rattle.checker.specs.Check.{written}
-use Rattle.checker.specs.Plan.{PlanStep, recordOf, closing}
+use Rattle.checker.specs.Plan.{PlanStep, recordOf}
 use Rattle.checker.specs.Write.{Writing, stepOn, onStep, writeTurn, stepsLeft, start, run}
 use Rattle.checker.specs.declared.plan.Step.{Step}
 use Rattle.checker.proofs.Laws.Turns.{Standing}
 
 -- a step's record has 9 bytes, the closing one 4
 pub record-length : (s : PlanStep) → length (recordOf s) ≡ 9
-unfolding recordOf
+unfolding recordOf recordBytes numberBytes
 record-length s = refl
 
 pub closing-length : length closing ≡ 4
-unfolding closing
+unfolding closing recordBytes numberBytes
 closing-length = refl
 
 module _ (i : Index) (s : Writing) where
@@ -151,7 +153,7 @@ module _ (bytes : List ℕ) (i : Index) (offsets : List ℕ) (s : Writing) (prog
   written-falls u e = let w = goes-written u e in omega (arith, w .few, written-steps u w)
 
 -- a turn that goes on leads to a possible position again
-pub written-stands : (bytes : List ℕ) (t : Task) → Passed bytes t → (s u : Writing) (program : List ℕ) → Standing (t .index) (s .position)
+pub written-stands : (bytes : List ℕ) (t : Layout) → Passed bytes t → (s u : Writing) (program : List ℕ) → Standing (t .index) (s .position)
     → writeTurn bytes (t .index) (t .offsets) program s ≡ go u → Standing (t .index) (u .position)
 written-stands bytes t passed s u program h e =
     let w = goes-written bytes (t .index) (t .offsets) s program u e in

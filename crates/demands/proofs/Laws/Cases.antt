@@ -10,7 +10,7 @@ use native.Mathlib.Decide.{decLt}
 use native.Mathlib.Omega.{arith}
 use lib.ListN.{length, getD, length-append}
 use Rattle.task.specs.Program.{instructionOn}
-use Rattle.task.specs.declared.index.Task.{Task}
+use Rattle.task.specs.declared.index.Layout.{Layout}
 use Rattle.task.specs.declared.instruction.Decoded.the-variants.{Is}
 use Rattle.task.specs.declared.instruction.Instruction.{Instruction}
 use Rattle.task.proofs.Laws.Passed.{Passed}
@@ -27,7 +27,7 @@ use Rattle.demands.proofs.Laws.Leads.{Taken}
 use Rattle.demands.proofs.Laws.Runs.{runningOf, starting-started, runs-above}
 use Rattle.demands.proofs.Laws.Makes.{startOf, Midway, midway-open, starts-midway, closes-or-stays, next-midway, next-finished, Made, taken-makes, makes-taken}
 
-module _ (bytes : List ℕ) (t : Task) (program : List ℕ) where
+module _ (bytes : List ℕ) (t : Layout) (program : List ℕ) where
   -- a program ends the cases from number c on, each by itself
   pub data EndsFrom : ℕ → List (List Visit) → Type 0 where
     done : {c : ℕ} → c ≡ t .index .cases → EndsFrom c []
@@ -92,7 +92,7 @@ module _ (bytes : List ℕ) (t : Task) (program : List ℕ) where
       }
 
 -- a step of the compiled task that makes the case's number grow begins the next case at its start, if there is one
-next-started : (bytes : List ℕ) (t : Task) {f : Frame} {w : Instruction} {r r′ : Running} → Runs bytes t f w r r′ → (c : ℕ) → r .case + 1 ≡ c
+next-started : (bytes : List ℕ) (t : Layout) {f : Frame} {w : Instruction} {r r′ : Running} → Runs bytes t f w r r′ → (c : ℕ) → r .case + 1 ≡ c
     → r′ .case ≡ c → c < t .index .cases → r′ ≡ started bytes t c
 next-started bytes t (acts h k) c e g l = absurd (omega arith)
 next-started bytes t (jumps h) c e g l = absurd (omega arith)
@@ -103,13 +103,13 @@ next-started bytes t (begins h k) c e g l = ap (started bytes t) e
 next-started bytes t (finishes h k) c e g l = absurd (omega arith)
 
 -- runs on each case by itself, laid end to end: a run of the compiled task from r on that finishes
-pub record Joined (bytes : List ℕ) (t : Task) (lines : Frame → Instruction) (r : Running) (traces : List (List Visit)) : Type 0 where
+pub record Joined (bytes : List ℕ) (t : Layout) (lines : Frame → Instruction) (r : Running) (traces : List (List Visit)) : Type 0 where
   pub end : Running
   pub chain : Chain (Taken bytes t) lines r (endToEnd traces) end
   pub finished : end .case ≡ t .index .cases
 
 -- a program whose bytes hold these lines
-module _ (bytes : List ℕ) (t : Task) (passed : Passed bytes t) (program : List ℕ) (lines : Frame → Instruction)
+module _ (bytes : List ℕ) (t : Layout) (passed : Passed bytes t) (program : List ℕ) (lines : Frame → Instruction)
     (held : (f : Frame) → Inside (t .index .bounds) f → instructionOn (t .index) program (f .procedure) (f .line) ≡ Is (lines f)) where
   -- no step follows at a position without a frame
   none-left : {r end : Running} {τ : List Visit} → Chain (Taken bytes t) lines r τ end → (s : Position) → runningOf s ≡ r → (0 < s .depth → ⊥) → [] ≡ τ

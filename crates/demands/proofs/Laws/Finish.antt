@@ -16,15 +16,16 @@ use Rattle.task.specs.declared.verdict.Verdict.{Verdict}
 use Rattle.task.specs.declared.verdict.Verdict.the-variants.{Accepted, Refused}
 use Rattle.task.proofs.Laws.Verdict.{refused-accepted}
 use Rattle.checker.specs.Answer.{Answer, Result, refused, accepted, passing, filled, answer}
-use Rattle.checker.specs.Plan.{PlanStep, recordOf, closing, planOf, planSize}
+use Rattle.checker.specs.Plan.{PlanStep, recordOf, planOf, planSize}
 use Rattle.checker.specs.Questions.{PLAN-BUFFER}
 use Rattle.checker.specs.Write.{run, programResult, onFinish, write}
+use Rattle.checker.proofs.Laws.Write.{record-length, closing-length}
 
 -- a plan has 9 bytes for each step, and 4
 pub plan-length : (steps : List PlanStep) → length (planOf steps) ≡ planSize (length steps)
-unfolding planOf planSize recordOf closing
-plan-length [] = refl
-plan-length (a ∷ rest) = omega (arith, length-append (recordOf a) (planOf rest), plan-length rest)
+unfolding planOf planSize
+plan-length [] = closing-length
+plan-length (a ∷ rest) = omega (arith, length-append (recordOf a) (planOf rest), record-length a, plan-length rest)
 
 -- an accepted run is answered by its plan, in a buffer that has room for it
 module _ (bytes program : List ℕ) (k : ℕ) (steps : List PlanStep) (count : length steps ≡ k) (e : programResult bytes program ≡ accepted k (planOf steps))
@@ -48,8 +49,8 @@ module _ (bytes program : List ℕ) (k : ℕ) (steps : List PlanStep) (count : l
 
 -- a program's run is what it comes to, if task and program pass
 pub run-result : (bytes program : List ℕ) (v : ℕ) → readTask bytes .verdict ≡ Accepted v
-    → programVerdict (readTask bytes .task .index) (readTask bytes .task .presets) program ≡ Accepted 0
-    → programResult bytes program ≡ run bytes (readTask bytes .task) program
+    → programVerdict (readTask bytes .layout .index) (readTask bytes .layout .presets) program ≡ Accepted 0
+    → programResult bytes program ≡ run bytes (readTask bytes .layout) program
 unfolding programResult passing
 run-result bytes program v e f = rw (e, f) refl
 
@@ -65,9 +66,9 @@ pub record Accepting (bytes program : List ℕ) (k : ℕ) : Type 0 where
   pub task : ℕ
   pub task-passes : readTask bytes .verdict ≡ Accepted task
   pub value : ℕ
-  pub passes : programVerdict (readTask bytes .task .index) (readTask bytes .task .presets) program ≡ Accepted value
+  pub passes : programVerdict (readTask bytes .layout .index) (readTask bytes .layout .presets) program ≡ Accepted value
   pub plan : List ℕ
-  pub runs : run bytes (readTask bytes .task) program ≡ accepted k plan
+  pub runs : run bytes (readTask bytes .layout) program ≡ accepted k plan
 
 module _ (bytes program buffer : List ℕ) (k : ℕ) where
   -- question 29 does not change the number of steps
@@ -82,7 +83,7 @@ module _ (bytes program buffer : List ℕ) (k : ℕ) where
   on-result (refused question place) e h = absurd (refused-accepted h)
   on-result (accepted n plan) e h =
       let task = passing-accepted (readTask bytes .verdict) _ n plan e in
-      let own = passing-accepted (programVerdict (readTask bytes .task .index) (readTask bytes .task .presets) program) _ n plan (task .1) in
+      let own = passing-accepted (programVerdict (readTask bytes .layout .index) (readTask bytes .layout .presets) program) _ n plan (task .1) in
       record {
         task = task .0 .0;
         task-passes = task .0 .1;

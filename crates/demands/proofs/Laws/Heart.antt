@@ -14,7 +14,7 @@ use Rattle.records.proofs.Laws.Tests.{cond-either}
 use Rattle.task.specs.Instruction.{encode}
 use Rattle.task.specs.declared.instruction.Instruction.{Instruction}
 use Rattle.task.specs.declared.instruction.Instruction.the-variants.{Empty}
-use Rattle.task.proofs.Laws.Triple.{op-empty}
+use Rattle.task.proofs.Laws.Instruction.{op-empty, op-above}
 use Rattle.step.specs.Position.{sameFrame}
 use Rattle.step.specs.Run.{Visit}
 use Rattle.step.specs.declared.position.Frame.{Frame}
@@ -23,7 +23,7 @@ use Rattle.checker.specs.declared.plan.Step.the-variants.{Write, Repeat}
 use Rattle.demands.specs.Compiled.{writtenAt}
 use Rattle.demands.specs.Demand3.{visited, stepsOf}
 use Rattle.checker.proofs.Laws.Check.{same-frame}
-use Rattle.demands.proofs.Laws.Program.{op-above, frame-same}
+use Rattle.demands.proofs.Laws.Program.{frame-same}
 
 -- whether there is an instruction other than empty
 unfoldable pub isFilled : Instruction → Bool

@@ -14,18 +14,17 @@ use Rattle.task.specs.Bounds.{lineCount, programSize}
 use Rattle.task.specs.Instruction.{decode, encode, tripleAt}
 use Rattle.task.specs.Program.{lineOffset, instructionOn, isInstruction, lineAllowed, sameTriple, presetHeld}
 use Rattle.task.specs.declared.bounds.Bounds.{Bounds}
-use Rattle.task.specs.declared.index.Task.{Task}
+use Rattle.task.specs.declared.index.Layout.{Layout}
 use Rattle.task.specs.declared.instruction.Decoded.{Decoded}
 use Rattle.task.specs.declared.instruction.Decoded.the-variants.{Is, Nothing}
 use Rattle.task.specs.declared.instruction.Instruction.{Instruction}
 use Rattle.task.proofs.Laws.Instruction.{decode-encode}
 use Rattle.task.proofs.Laws.Program.{Passes, line-offset}
-use Rattle.task.proofs.Laws.Triple.{decoded-on, same-triple, triple-same}
+use Rattle.task.proofs.Laws.Triple.{decoded-on, same-triple, triple-same, triple-behind}
 use Rattle.step.specs.declared.position.Frame.{Frame}
 use Rattle.demands.specs.Compiled.{instructionAt}
 use Rattle.demands.specs.Demand2.{lineOf, bytesFrom, programOf}
-use Rattle.demands.specs.Demand3.{Inside, bytesOn, isPreset, WellFormed}
-use Rattle.demands.proofs.Laws.Plan.{triple-behind}
+use Rattle.demands.specs.Demand3.{Inside, bytesOn, isPreset, WellFormedProgram}
 use Rattle.demands.proofs.Laws.Presets.{LinesAllowed}
 use Rattle.demands.proofs.Laws.Program.{Holds, number, number-line, number-less, line-inside}
 
@@ -55,11 +54,11 @@ preset-yes presets program k same = on (eqb (tripleAt presets (3 * k) .op) 0) re
         let n = eqb-false (tripleAt presets (3 * k) .op) 0 e in
         rw (same (lt-ltb 0 (tripleAt presets (3 * k) .op) (omega arith))) (triple-same (tripleAt presets (3 * k)))
 
-module _ (t : Task) (program : List ℕ) where
+module _ (t : Layout) (program : List ℕ) where
   abbrev b : Bounds
   b = t .index .bounds
 
-  module _ (formed : WellFormed t program) where
+  module _ (formed : WellFormedProgram t program) where
     pub line-held : (f : Frame) → Inside b f → instructionOn (t .index) program (f .procedure) (f .line) ≡ Is (instructionAt b program f)
     line-held f h =
         let d = decoded-is _ (formed .lines f h) in
@@ -74,7 +73,7 @@ module _ (t : Task) (program : List ℕ) where
 
     -- a program of such lines is well formed, if it has its length and its lines are those of the presets where there are some
     pub held-formed : length program ≡ programSize b → LinesAllowed b (t .index .actions) lines
-        → ((f : Frame) → Inside b f → isPreset t f ≡ true → encode (lines f) ≡ bytesOn b (t .presets) f) → WellFormed t program
+        → ((f : Frame) → Inside b f → isPreset t f ≡ true → encode (lines f) ≡ bytesOn b (t .presets) f) → WellFormedProgram t program
     held-formed size allows same =
         record {
           size = size;
@@ -83,7 +82,7 @@ module _ (t : Task) (program : List ℕ) where
         }
 
   -- questions 25 to 27 let pass exactly the programs that are well formed
-  pub passes-formed : Passes (t .index) (t .presets) program → WellFormed t program
+  pub passes-formed : Passes (t .index) (t .presets) program → WellFormedProgram t program
   unfolding instructionOn lineOffset lineAllowed presetHeld lineOf isPreset
   passes-formed p =
       record {
@@ -96,7 +95,7 @@ module _ (t : Task) (program : List ℕ) where
             cc (same-triple (bytesOn b (t .presets) f) (bytesOn b program f) (rw op at (p .held (number b f) (number-less b f h))));
       }
 
-  pub formed-passes : WellFormed t program → Passes (t .index) (t .presets) program
+  pub formed-passes : WellFormedProgram t program → Passes (t .index) (t .presets) program
   unfolding instructionOn lineAllowed lineOf isPreset
   formed-passes formed =
       record {

@@ -9,11 +9,11 @@ use borrow.Author.Tests.{eqb-true, eqb-false, eq-eqb, ne-eqb}
 use Rattle.records.proofs.Laws.Tests.{cond-either}
 use Rattle.task.specs.Instruction.{encode}
 use Rattle.task.specs.declared.bounds.Bounds.{Bounds}
-use Rattle.task.specs.declared.index.Task.{Task}
+use Rattle.task.specs.declared.index.Layout.{Layout}
 use Rattle.task.specs.declared.instruction.Instruction.{Instruction}
 use Rattle.task.specs.declared.instruction.Instruction.the-variants.{Empty}
 use Rattle.task.specs.declared.instruction.Triple.{Triple}
-use Rattle.task.proofs.Laws.Triple.{op-empty}
+use Rattle.task.proofs.Laws.Instruction.{op-empty}
 use Rattle.step.specs.declared.position.Frame.{Frame}
 use Rattle.checker.specs.Check.{written}
 use Rattle.checker.specs.Plan.{PlanStep, instructionOf}
@@ -56,7 +56,7 @@ module _ (b : Bounds) (program lines : Frame → Instruction) (f : Frame) where
         rw (ne-eqb (bytesOn b written f .op) 0 (λ (z : bytesOn b written f .op ≡ 0). n (sym fits ∙ op-empty (lines f) (sym held-op ∙ z)))) refl
 
 -- a step that fits its line, in front of those that are followed after it
-pub follows-fits : (bytes : List ℕ) (t : Task) {lines last : Frame → Instruction} {r r′ end : Running} {f : Frame} {rest : List PlanStep} (step : Step)
+pub follows-fits : (bytes : List ℕ) (t : Layout) {lines last : Frame → Instruction} {r r′ end : Running} {f : Frame} {rest : List PlanStep} (step : Step)
     → Fits lines f step → Taken bytes t f (instructionOf step) r r′ → Follows (Taken bytes t) (linesAfter lines f step) r′ rest last end
     → Follows (Taken bytes t) lines r (record { frame = f; step = step } ∷ rest) last end
 unfolding instructionOf
@@ -64,7 +64,7 @@ follows-fits bytes t (Write w) fits taken more = heart.writes fits taken more
 follows-fits bytes t (Repeat w) fits taken more = heart.repeats fits taken more
 
 -- and its visit, in front of those after it
-pub visits-step : (bytes : List ℕ) (t : Task) {program : Frame → Instruction} {r r′ end : Running} {f : Frame} (rest : List PlanStep) (step : Step)
+pub visits-step : (bytes : List ℕ) (t : Layout) {program : Frame → Instruction} {r r′ end : Running} {f : Frame} (rest : List PlanStep) (step : Step)
     → program f ≡ instructionOf step → Taken bytes t f (instructionOf step) r r′ → Chain (Taken bytes t) program r′ (visitsOf rest) end
     → Chain (Taken bytes t) program r (visitsOf (record { frame = f; step = step } ∷ rest)) end
 unfolding visitsOf

@@ -4,7 +4,7 @@
 use Prim.Native.Nat.{ℕ}
 use mathlib.Core.Path.{_≡_}
 use mathlib.Core.List.{List}
-use Rattle.task.specs.declared.index.Task.{Task}
+use Rattle.task.specs.declared.index.Layout.{Layout}
 use Rattle.task.specs.declared.instruction.Instruction.{Instruction}
 use Rattle.task.specs.declared.instruction.Instruction.the-variants.{Empty}
 use Rattle.step.specs.declared.position.Frame.{Frame}
@@ -15,7 +15,7 @@ use Rattle.demands.specs.Demand3.{Inside}
 use Rattle.demands.proofs.Laws.Steps.{may-inside}
 use Rattle.demands.proofs.Laws.Heart.{Follows, none, writes, repeats}
 
-module _ (bytes : List ℕ) (t : Task) where
+module _ (bytes : List ℕ) (t : Layout) where
   -- an instruction that may stand at the frame, and runs there
   abbrev pub Taken : Frame → Instruction → Running → Running → Type 0
   Taken f w r r′ = MayStand bytes t f w × Runs bytes t f w r r′

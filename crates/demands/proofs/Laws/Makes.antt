@@ -13,7 +13,7 @@ use Rattle.task.specs.Index.{caseAt}
 use Rattle.task.specs.Instruction.{allowed}
 use Rattle.task.specs.Program.{instructionOn}
 use Rattle.task.specs.declared.index.Index.{Index}
-use Rattle.task.specs.declared.index.Task.{Task}
+use Rattle.task.specs.declared.index.Layout.{Layout}
 use Rattle.task.specs.declared.instruction.Decoded.the-variants.{Is}
 use Rattle.task.specs.declared.instruction.Instruction.{Instruction}
 use Rattle.task.proofs.Laws.Instruction.{decode-allowed}
@@ -34,7 +34,7 @@ use Rattle.demands.proofs.Laws.Runs.{runningOf, runs-performs, performs
 use Rattle.demands.proofs.Laws.Steps.{may-inside, stack-most, depth-most}
 
 -- where the run on case c by itself begins
-abbrev pub startOf : List ℕ → Task → ℕ → Position
+abbrev pub startOf : List ℕ → Layout → ℕ → Position
 startOf bytes t c = starting c (caseAt bytes (t .index .first) c .start)
 
 -- a position in the run of a case, with room for so many steps
@@ -46,7 +46,7 @@ pub record Midway (i : Index) (s : Position) (left : ℕ) : Type 0 where
 pub midway-open : (i : Index) (s : Position) (left : ℕ) → Midway i s left → s .case < i .cases
 midway-open i s left h = let p = parts i s (h .standing .0) in omega (arith, p .case, depth-open i s (p .depth) (h .above) .0)
 
-module _ (bytes : List ℕ) (t : Task) (passed : Passed bytes t) where
+module _ (bytes : List ℕ) (t : Layout) (passed : Passed bytes t) where
   abbrev i : Index
   i = t .index
 
@@ -84,7 +84,7 @@ module _ (bytes : List ℕ) (t : Task) (passed : Passed bytes t) where
       next-finished f above = depth-open i next (parts i next (next-standing .0) .depth) above .0 f
 
 -- a step of the compiled task from a position, as a step of the program
-pub record Made (bytes : List ℕ) (t : Task) (program : List ℕ) (s : Position) (f : Frame) (w : Instruction) (r : Running) : Type 0 where
+pub record Made (bytes : List ℕ) (t : Layout) (program : List ℕ) (s : Position) (f : Frame) (w : Instruction) (r : Running) : Type 0 where
   pub here : f ≡ top s
   pub next : Position
   pub running : runningOf next ≡ r
@@ -93,14 +93,14 @@ pub record Made (bytes : List ℕ) (t : Task) (program : List ℕ) (s : Position
   pub fits : allowed (t .index .bounds) (t .index .actions) (top s .line) w ≡ true
 
 -- a step of the program, as one by the compiled task's rules
-pub record ByRules (bytes : List ℕ) (t : Task) (lines : Frame → Instruction) (s : Position) (w : Instruction) (next : Position) : Type 0 where
+pub record ByRules (bytes : List ℕ) (t : Layout) (lines : Frame → Instruction) (s : Position) (w : Instruction) (next : Position) : Type 0 where
   pub does : perform bytes (t .index) (t .offsets) s w ≡ go next
   pub fits : allowed (t .index .bounds) (t .index .actions) (top s .line) w ≡ true
   pub same : lines (top s) ≡ w
   pub taken : Taken bytes t (top s) w (runningOf s) (runningOf next)
 
 -- a program whose bytes hold these lines
-module _ (bytes : List ℕ) (t : Task) (passed : Passed bytes t) (program : List ℕ) (lines : Frame → Instruction)
+module _ (bytes : List ℕ) (t : Layout) (passed : Passed bytes t) (program : List ℕ) (lines : Frame → Instruction)
     (held : (f : Frame) → Inside (t .index .bounds) f → instructionOn (t .index) program (f .procedure) (f .line) ≡ Is (lines f)) where
   pub taken-makes : (s : Position) (left : ℕ) → Midway (t .index) s (suc left) → {f : Frame} {w : Instruction} {r : Running} → lines f ≡ w
       → Taken bytes t f w (runningOf s) r → Made bytes t program s f w r

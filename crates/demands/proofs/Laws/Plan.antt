@@ -2,18 +2,20 @@
 -- where it reads one. The kind tells a write from a repeat and three bytes spell one instruction at most, so what is read is one step, and
 -- the bytes of a plan determine its steps.
 -- Assumes nothing.
-use Prim.Native.Nat.{ℕ, _+_, _≤_}
+use Prim.Native.Nat.{ℕ, zero, suc, _+_, _^_, _≤_, _<_}
 use mathlib.Core.Path.{_≡_, refl, sym, ap, _∙_}
 use mathlib.Core.Bool.{true, false, or-false}
-use mathlib.Core.List.{List, [], _∷_, _++_, append-assoc, append-nil}
-use native.Mathlib.Nat.{add-zero, add-assoc}
+use mathlib.Core.List.{List, [], _∷_, _++_, flatMap, append-assoc}
+use native.Mathlib.Nat.{add-zero}
 use native.Mathlib.Omega.{arith}
 use lib.Dec.{eqb}
 use lib.ListN.{length, take, drop, length-drop}
-use lib.Seq.{drop-cons, drop-length}
 use borrow.Author.Tests.{leb-true, eqb-true, eqb-false}
-use Rattle.records.specs.Record.{recordAt}
+use Rattle.records.specs.Numbers.{byteAt, u16At, numberBytes}
+use Rattle.records.specs.Record.{recordAt, recordBytes, closing}
 use Rattle.records.specs.declared.record.Found.the-variants.{Record}
+use Rattle.records.proofs.Laws.Bytes.{byte-behind, record-read, body-read, rest-read, record-written, closing-written}
+use Rattle.records.proofs.Laws.Numbers.{there}
 use Rattle.records.proofs.Laws.Record.{record-ends}
 use Rattle.records.proofs.Laws.Tests.{both-true, cond-either}
 use Rattle.task.specs.Instruction.{encode, tripleAt}
@@ -21,32 +23,26 @@ use Rattle.task.specs.declared.instruction.Instruction.{Instruction}
 use Rattle.task.specs.declared.instruction.Triple.{Triple}
 use Rattle.step.specs.declared.position.Frame.{Frame}
 use Rattle.checker.proofs.Laws.Check.{step-instruction}
-use Rattle.checker.specs.Plan.{PlanStep, instructionOf, kindOf, stepOf, isKind, lengthFits, frameAt, recordOf, closing, planOf}
+use Rattle.checker.specs.Plan.{PlanStep, instructionOf, kindOf, stepOf, isKind, lengthFits, frameAt, recordOf, planOf}
 use Rattle.checker.specs.declared.plan.Step.{Step}
 use Rattle.checker.specs.declared.plan.Step.the-variants.{Write, Repeat}
+use Rattle.task_file.proofs.Laws.Rows.{flat-more}
 use Rattle.demands.specs.Demand2.{OneToOne}
-use Rattle.task.proofs.Laws.Triple.{spelled-encode}
-use Rattle.demands.proofs.Laws.Records.{byte-behind, record-read, body-read, rest-read, record-written}
+use Rattle.task.proofs.Laws.Triple.{spelled-encode, triple-behind, five-bytes}
 
 -- the steps' records, without the closing one
-unfoldable pub recordsOf : List PlanStep → List ℕ
-recordsOf [] = []
-recordsOf (a ∷ σ) = recordOf a ++ recordsOf σ
+abbrev pub stepRecords : List PlanStep → List ℕ
+stepRecords σ = flatMap recordOf σ
 
-pub plan-records : (σ : List PlanStep) → planOf σ ≡ recordsOf σ ++ closing
-unfolding planOf recordsOf
+pub plan-records : (σ : List PlanStep) → planOf σ ≡ stepRecords σ ++ closing
+unfolding planOf flatMap
 plan-records [] = refl
 plan-records (a ∷ σ) = rw (plan-records σ, append-assoc)
 
-records-snoc : (σ : List PlanStep) (a : PlanStep) → recordsOf (σ ++ (a ∷ [])) ≡ recordsOf σ ++ recordOf a
-unfolding recordsOf
-records-snoc [] a = append-nil (recordOf a)
-records-snoc (b ∷ σ) a = rw (records-snoc σ a, append-assoc)
-
 -- the steps before an offset, and the record of one more there
-pub records-more : (plan : List ℕ) (at next : ℕ) (σ : List PlanStep) (a : PlanStep) → plan ≡ recordsOf σ ++ drop at plan
-    → drop at plan ≡ recordOf a ++ drop next plan → plan ≡ recordsOf (σ ++ (a ∷ [])) ++ drop next plan
-records-more plan at next σ a e h = cc (records-snoc σ a, append-assoc (recordsOf σ) (recordOf a) (drop next plan))
+pub records-more : (plan : List ℕ) (at next : ℕ) (σ : List PlanStep) (a : PlanStep) → plan ≡ stepRecords σ ++ drop at plan
+    → drop at plan ≡ recordOf a ++ drop next plan → plan ≡ stepRecords (σ ++ (a ∷ [])) ++ drop next plan
+records-more plan at next σ a e h = cc (flat-more recordOf σ a, append-assoc (stepRecords σ) (recordOf a) (drop next plan))
 
 -- a step is made of its kind and its instruction
 pub step-again : (s : Step) → stepOf (kindOf s) (instructionOf s) ≡ s
@@ -72,29 +68,43 @@ unfolding isKind lengthFits kindOf
 step-asked (Write w) = (refl, refl, refl)
 step-asked (Repeat w) = (refl, refl, refl)
 
--- the body of a step's record
+-- the body of a step's record, from its frame and its three bytes
 abbrev bodyOf : Frame → Triple → List ℕ
 bodyOf f w = f .procedure .0 ∷ f .line .0 ∷ w .op ∷ w .p ∷ w .q ∷ []
+
+kind-small : (s : Step) → kindOf s < 2 ^ 16
+unfolding kindOf
+kind-small (Write w) = omega arith
+kind-small (Repeat w) = omega arith
+
+-- the head bytes of a record whose kind and length are below 256: a number of two bytes that is below 256 has both bytes below 256
+module _ (plan : List ℕ) where
+  two-small : (at v : ℕ) → v < 256 → v ≡ u16At plan at → at + 2 ≤ length plan → (byteAt plan at < 256) × (byteAt plan (at + 1) < 256)
+  unfolding u16At
+  two-small at v small e h = let two = e ∙ sym (there 2 plan at _ h) in omega arith
+
+  four-small : (at : ℕ) → (byteAt plan at < 256) × (byteAt plan (at + 1) < 256) → (byteAt plan (at + 2) < 256) × (byteAt plan (at + 2 + 1) < 256)
+      → (k : ℕ) → k < 4 → byteAt plan (at + k) < 256
+  four-small at low high zero l = rw (add-zero at) (low .0)
+  four-small at low high (suc zero) l = low .1
+  four-small at low high (suc (suc zero)) l = high .0
+  four-small at low high (suc (suc (suc zero))) l = let e : at + 3 ≡ at + 2 + 1 = omega arith in rw e (high .1)
+  four-small at low high (suc (suc (suc (suc k)))) l = absurd (omega arith)
+
+  head-small : (at kind start size next : ℕ) → recordAt plan at ≡ Record kind start size next → kind < 256 → size < 256
+      → (k : ℕ) → k < 4 → byteAt plan (at + k) < 256
+  head-small at kind start size next h small few =
+      let e = record-ends plan at kind start size next h in
+      four-small at (two-small at size few (e .3) (omega arith)) (two-small (at + 2) kind small (e .4) (omega arith))
 
 frame-behind : (plan : List ℕ) (at : ℕ) → frameAt plan at ≡ frameAt (drop at plan) 0
 unfolding frameAt
 frame-behind plan at = cc (byte-behind plan at 0, byte-behind plan at 1, add-zero at)
 
-pub triple-behind : (plan : List ℕ) (at k : ℕ) → tripleAt plan (at + k) ≡ tripleAt (drop at plan) k
-unfolding tripleAt
-triple-behind plan at k = simp (← byte-behind, add-assoc)
-
 -- five bytes are a step's body
 body-bytes : (l : List ℕ) → 5 ≤ length l → take 5 l ≡ bodyOf (frameAt l 0) (tripleAt l 2)
-unfolding frameAt tripleAt
-body-bytes l h =
-    cc (
-      drop-cons l 0 0 (omega arith),
-      drop-cons l 1 0 (omega arith),
-      drop-cons l 2 0 (omega arith),
-      drop-cons l 3 0 (omega arith),
-      drop-cons l 4 0 (omega arith),
-    )
+unfolding frameAt
+body-bytes l h = ap (take 5) (five-bytes l h)
 
 -- what the checker reads at an offset where a step's record is: it passes questions 12 and 13, does not close the plan, names the step's
 -- frame and spells its instruction; then come the bytes behind it
@@ -121,7 +131,7 @@ step-read plan at a rest h =
       body = at + 4;
       size = 5;
       next = at + 4 + 5;
-      found = record-read plan at kind body rest h;
+      found = record-read plan at kind body rest h (kind-small (a .step)) (omega arith);
       kind = asked .0;
       fits = asked .1;
       more = asked .2;
@@ -130,22 +140,17 @@ step-read plan at a rest h =
       behind = rest-read plan at kind body rest h;
     }
 
-pub closing-read : (plan : List ℕ) (at : ℕ) → drop at plan ≡ closing
-    → (recordAt plan at ≡ Record 5 (at + 4) 0 (at + 4)) × (at + 4 ≡ length plan)
-unfolding closing
-closing-read plan at h = (rw add-zero at (record-read plan at 5 [] [] h), omega (arith, length-drop at plan, ap length h))
-
 -- conversely: the bytes of a record that is read, of a length that fits its kind
 module _ (plan : List ℕ) (at kind body size next : ℕ) (found : recordAt plan at ≡ Record kind body size next)
     (fits : lengthFits kind size ≡ true) where
   pub step-written : isKind kind ≡ true → eqb kind 5 ≡ false → (w : Instruction) → tripleAt plan (body + 2) ≡ encode w
       → drop at plan ≡ recordOf (record { frame = frameAt plan body; step = stepOf kind w }) ++ drop next plan
-  unfolding recordOf lengthFits
+  unfolding lengthFits recordOf
   step-written h k w t =
       let five = eqb-true size 5 (rw k at fits) in
       let ends = record-ends plan at kind body size next found in
       let range = step-kinds kind h k in
-      record-written plan at kind body size next found (omega arith) (omega arith)
+      record-written plan at kind body size next found (head-small plan at kind body size next found (omega arith) (omega arith))
       ∙ cc (
         kind-again kind w h k,
         step-instruction kind w,
@@ -154,12 +159,12 @@ module _ (plan : List ℕ) (at kind body size next : ℕ) (found : recordAt plan
         body-bytes (drop body plan) (omega (arith, length-drop body plan)),
       )
 
-  pub closing-written : eqb kind 5 ≡ true → next ≡ length plan → drop at plan ≡ closing
-  unfolding closing lengthFits
-  closing-written k end =
+  pub end-written : eqb kind 5 ≡ true → next ≡ length plan → drop at plan ≡ closing
+  unfolding lengthFits
+  end-written k end =
       let zero = eqb-true size 0 (rw k at fits) in
       let five = eqb-true kind 5 k in
-      record-written plan at kind body size next found (omega arith) (omega arith) ∙ cc (drop-length plan)
+      closing-written plan at body next (rw (zero, five) at found) (head-small plan at kind body size next found (omega arith) (omega arith)) end
 
 -- what is read at an offset is one step, and one list of bytes behind it
 read-once : (plan : List ℕ) (at : ℕ) (a b : PlanStep) (l m : List ℕ) → Reads plan at a l → Reads plan at b m → (a ≡ b) × (l ≡ m)
@@ -175,7 +180,7 @@ read-once plan at a b l m r q =
     (λ i. record { frame = f i; step = s i }, cc)
 
 pub one-to-one : OneToOne
-unfolding planOf closing recordOf
+unfolding planOf closing recordOf recordBytes numberBytes
 one-to-one [] [] h = refl
 one-to-one [] (b ∷ τ) h = cc
 one-to-one (a ∷ σ) [] h = cc

@@ -7,14 +7,14 @@ use mathlib.Core.Path.{_≡_, refl, sym, ap, _∙_}
 use mathlib.Core.Bool.{true, false, true≢false}
 use mathlib.Core.List.{List, _∷_}
 use mathlib.Core.Logic.{_↔_}
-use native.Mathlib.Nat.{mod-lt, mod-eq-of-lt, mul-add-mod-self-right, div-eq-of-lt, mul-add-div-right, div-lt-iff-lt-mul, mul-le-mul-right}
+use native.Mathlib.Nat.{mod-lt, div-lt-iff-lt-mul, mul-le-mul-right}
 use native.Mathlib.Numerals.{add-one, add-two}
 use native.Mathlib.Omega.{arith}
 use lib.ListN.{length, take, drop}
 use lib.Seq.{drop-cons}
 use borrow.Author.Tests.{eqb-true, eq-eqb}
 use Rattle.records.proofs.Laws.Tests.{cond-either}
-use Rattle.task.proofs.Laws.Program.{line-offset}
+use Rattle.task.proofs.Laws.Program.{lineNumber, line-parts, line-offset}
 use Rattle.task.specs.Bounds.{lineCount, programSize}
 use Rattle.task.specs.Instruction.{encode, tripleAt, withTriple}
 use Rattle.task.specs.Program.{lineOffset}
@@ -30,7 +30,8 @@ use Rattle.checker.specs.declared.plan.Step.the-variants.{Write, Repeat}
 use Rattle.demands.specs.Compiled.{writtenAt}
 use Rattle.demands.specs.Demand2.{lineOf, bytesFrom, programOf}
 use Rattle.demands.specs.Demand3.{Inside, bytesOn}
-use Rattle.task.proofs.Laws.Triple.{encode-injective, op-empty, same-triple, triple-same, put-here, put-other}
+use Rattle.task.proofs.Laws.Instruction.{op-empty}
+use Rattle.task.proofs.Laws.Triple.{encode-injective, same-triple, triple-same, put-here, put-other}
 
 -- a program that holds, on every line that it has, the instruction that the line is said to have
 abbrev pub Holds : Bounds → List ℕ → (Frame → Instruction) → Type 0
@@ -50,14 +51,6 @@ module _ (b : Bounds) (program : List ℕ) (lines : Frame → Instruction) (hold
   repeat-fits =
       (λ h. encode-injective (lines f) w (sym (holds f inside) ∙ same-triple _ _ h), λ e. rw (holds f inside, e) (triple-same (encode w)))
 
--- an instruction that is not empty has a first byte above 0
-pub op-above : (w : Instruction) → (w ≡ Empty → ⊥) → 0 < encode w .op
-op-above w n = by (encode w .op) refl
-  where
-    by : (op : ℕ) → encode w .op ≡ op → 0 < encode w .op
-    by zero e = absurd (n (op-empty w e))
-    by (suc op) e = omega arith
-
 -- every frame is the same as itself, as question 17 asks it
 pub frame-same : (f : Frame) → sameFrame f f ≡ true
 unfolding sameFrame
@@ -66,17 +59,11 @@ frame-same f = simp (eq-eqb (f .procedure .0) (f .procedure .0) refl, eq-eqb (f 
 -- a line's number, counted through all procedures, and back: lines that are not the same have other numbers
 module _ (b : Bounds) where
   abbrev pub number : Frame → ℕ
-  number f = f .procedure .0 * (b .last + 1) + f .line .0
+  number f = lineNumber b (f .procedure) (f .line)
 
   pub number-line : (f : Frame) → f .line .0 ≤ b .last → lineOf b (number f) ≡ f
   unfolding lineOf
-  number-line f h =
-      let j = f .procedure .0 in
-      let i = f .line .0 in
-      let short : i < b .last + 1 = omega arith in
-      frame-is
-      (mul-add-div-right {m = b .last + 1} (omega arith) j i ∙ omega (arith, div-eq-of-lt short))
-      (mul-add-mod-self-right j (b .last + 1) i ∙ mod-eq-of-lt short)
+  number-line f h = let parts = line-parts (b .last) (f .procedure .0) (f .line .0) h in frame-is (parts .0) (parts .1)
 
   number-apart : (f g : Frame) → Inside b f → Inside b g → sameFrame f g ≡ false → number g ≡ number f → ⊥
   number-apart f g h k e n =

@@ -12,7 +12,7 @@ use lib.ListN.{length, getD, set, length-set}
 use lib.Seq.{getD-set-same, getD-set-other}
 use Rattle.records.specs.Loop.{go}
 use Rattle.task.specs.Index.{caseAt}
-use Rattle.task.specs.declared.index.Task.{Task}
+use Rattle.task.specs.declared.index.Layout.{Layout}
 use Rattle.task.specs.declared.instruction.Instruction.{Instruction}
 use Rattle.task.specs.declared.instruction.Line.{Line}
 use Rattle.task.specs.declared.instruction.Proc.{Proc}
@@ -69,14 +69,14 @@ module _ (frames : List Frame) where
         rw (k, getD-set-same frames n f origin h, set-above n (omega arith))
 
 -- what an instruction that runs at frame f by a rule, to r, does at a position: f is the top frame, and it goes to a position at r
-pub record Performs (bytes : List ℕ) (t : Task) (s : Position) (f : Frame) (w : Instruction) (r : Running) : Type 0 where
+pub record Performs (bytes : List ℕ) (t : Layout) (s : Position) (f : Frame) (w : Instruction) (r : Running) : Type 0 where
   pub here : f ≡ top s
   pub to : Position
   pub does : perform bytes (t .index) (t .offsets) s w ≡ go to
   pub running : runningOf to ≡ r
 
 -- a position with a frame, and room for 16. First what the moves make of its stack
-module _ (bytes : List ℕ) (t : Task) (bound : t .index .bounds .stack ≤ 16) (s : Position) (above : 0 < s .depth) (most : s .depth ≤ 16)
+module _ (bytes : List ℕ) (t : Layout) (bound : t .index .bounds .stack ≤ 16) (s : Position) (above : 0 < s .depth) (most : s .depth ≤ 16)
     (room : length (s .frames) ≡ 16) where
   top-first : stackOf s ≡ top s ∷ below s
   unfolding top
@@ -157,7 +157,7 @@ module _ (bytes : List ℕ) (t : Task) (bound : t .index .bounds .stack ≤ 16) 
   pub runs-performs : {f : Frame} {w : Instruction} {r : Running} → Runs bytes t f w (runningOf s) r → Performs bytes t s f w r
   runs-performs h = rule-performs (below s) refl (rw top-first at h)
 
-module _ (bytes : List ℕ) (t : Task) where
+module _ (bytes : List ℕ) (t : Layout) where
   -- a case's start
   pub starting-started : (c : ℕ) → runningOf (starting c (caseAt bytes (t .index .first) c .start)) ≡ started bytes t c
   unfolding starting origin framesBelow

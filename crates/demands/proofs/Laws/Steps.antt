@@ -4,26 +4,24 @@
 -- afterwards stand for one another again.
 -- Assumes nothing.
 use Prim.Native.Nat.{ℕ, _+_, _≤_, _<_}
-use mathlib.Core.Path.{_≡_, refl, sym, ap, _∙_, subst}
-use mathlib.Core.Bool.{true, _&&_}
+use mathlib.Core.Path.{_≡_, refl, sym, _∙_, subst}
+use mathlib.Core.Bool.{true}
 use mathlib.Core.List.{List, _++_}
 use mathlib.Core.Logic.{_↔_}
 use native.Mathlib.Omega.{arith}
 use lib.ListN.{length, drop}
-use lib.Dec.{ltb}
-use borrow.Author.Tests.{lt-ltb}
 use Rattle.records.specs.Loop.{go}
 use Rattle.task.specs.Bounds.{programSize}
 use Rattle.task.specs.Instruction.{allowed, decodeFor, encode}
 use Rattle.task.specs.Program.{lineOffset}
 use Rattle.task.specs.declared.bounds.Bounds.{Bounds}
-use Rattle.task.specs.declared.index.Task.{Task}
+use Rattle.task.specs.declared.index.Layout.{Layout}
 use Rattle.task.specs.declared.instruction.Decoded.the-variants.{Is}
 use Rattle.task.specs.declared.instruction.Instruction.{Instruction}
 use Rattle.task.specs.declared.instruction.Instruction.the-variants.{Empty}
 use Rattle.task.specs.declared.instruction.Triple.{Triple}
 use Rattle.task.proofs.Laws.Bounds.{ranges}
-use Rattle.task.proofs.Laws.Instruction.{keep-yes, decode-encode, allowed-line, decoded-for, put-length}
+use Rattle.task.proofs.Laws.Instruction.{allowed-line, decoded-for, for-decoded, put-length}
 use Rattle.task.proofs.Laws.Passed.{Passed}
 use Rattle.step.specs.Position.{top}
 use Rattle.step.specs.Possible.{possible}
@@ -42,7 +40,7 @@ use Rattle.checker.proofs.Laws.Turns.{reached, Went, goes-went, went-goes, Stan
 use Rattle.demands.specs.Compiled.{State, Running, writtenAt, Runs, MayStand, Applies, writes, repeats}
 use Rattle.demands.specs.Demand3.{Inside, bytesOn}
 use Rattle.demands.proofs.Laws.Plan.{step-read, step-written, step-again}
-use Rattle.demands.proofs.Laws.Program.{Holds, write-fits, repeat-fits, op-above, frame-same, holds-written}
+use Rattle.demands.proofs.Laws.Program.{Holds, write-fits, repeat-fits, frame-same, holds-written}
 use Rattle.demands.proofs.Laws.Runs.{runningOf, performs-runs, runs-performs, runs-above}
 
 -- what a step asks of its line: a write that it is empty, a repeat that it holds the instruction
@@ -56,7 +54,7 @@ linesAfter lines f (Write w) = writtenAt lines f w
 linesAfter lines f (Repeat w) = lines
 
 -- an action of the compiled task, with its kind left open
-module _ (bytes : List ℕ) (t : Task) where
+module _ (bytes : List ℕ) (t : Layout) where
   record Applied (a : PlanStep) (c d : State) : Type 0 where
     may : MayStand bytes t (a .frame) (instructionOf (a .step))
     fits : Fits (c .lines) (a .frame) (a .step)
@@ -76,32 +74,22 @@ module _ (bytes : List ℕ) (t : Task) where
   action-applies f (Repeat w) c r may fits runs = repeats may fits runs
 
 -- question 15 decodes the bytes of an instruction exactly where it may stand, which is on a line of the program
-module _ (bytes : List ℕ) (t : Task) (f : Frame) (w : Instruction) where
+module _ (bytes : List ℕ) (t : Layout) (f : Frame) (w : Instruction) where
   abbrev b : Bounds
   b = t .index .bounds
 
   decoded-may : (x : Triple) → decodeFor b (t .index .actions) (f .procedure) (f .line) x ≡ Is w → MayStand bytes t f w × (encode w ≡ x)
-  unfolding encode
   decoded-may x e =
-      let d = decoded-for b (t .index .actions) (f .procedure) (f .line) x w e in (
-        record {
-          procedure = d .procedure;
-          allowed = d .allowed;
-          instruction = λ z. omega (arith, d .op, ap (λ (y : Triple). y .op) (d .encodes), ap (λ (v : Instruction). encode v .op) z);
-        },
-        d .encodes,
-      )
+      let d = decoded-for b (t .index .actions) (f .procedure) (f .line) x w e in
+      (record { procedure = d .procedure; allowed = d .allowed; instruction = d .nonempty }, d .encodes)
 
   may-decoded : MayStand bytes t f w → decodeFor b (t .index .actions) (f .procedure) (f .line) (encode w) ≡ Is w
-  unfolding decodeFor
-  may-decoded m =
-      sym (keep-yes (ltb (f .procedure .0) (b .procedures) && ltb 0 (encode w .op)) _ (simp (lt-ltb _ _ (m .procedure), lt-ltb 0 _ (op-above w (m .instruction)))))
-      ∙ decode-encode b (t .index .actions) (f .line) w (m .allowed)
+  may-decoded m = for-decoded b (t .index .actions) (f .procedure) (f .line) w (m .procedure) (m .allowed) (m .instruction)
 
   pub may-inside : MayStand bytes t f w → Inside (t .index .bounds) f
   may-inside m = record { procedure = m .procedure; line = allowed-line b (t .index .actions) (f .line) w (m .allowed) }
 
-module _ (bytes : List ℕ) (t : Task) (passed : Passed bytes t) where
+module _ (bytes : List ℕ) (t : Layout) (passed : Passed bytes t) where
   -- a state of the checker that stands for one of the compiled task
   pub record Stands (s : check.State) (c : State) : Type 0 where
     pub running : c .running ≡ runningOf (s .position)

@@ -8,9 +8,10 @@ use mathlib.Core.List.{List, [], _∷_, _++_, append-assoc}
 use native.Mathlib.Omega.{arith}
 use lib.ListN.{length}
 use Rattle.records.specs.Loop.{Turn, stop, go, after}
+use Rattle.records.specs.Record.{closing}
 use Rattle.task.specs.Program.{instructionOn}
 use Rattle.task.specs.declared.bounds.Bounds.{Bounds}
-use Rattle.task.specs.declared.index.Task.{Task}
+use Rattle.task.specs.declared.index.Layout.{Layout}
 use Rattle.task.specs.declared.instruction.Decoded.the-variants.{Is}
 use Rattle.task.specs.declared.instruction.Instruction.{Instruction}
 use Rattle.task.proofs.Laws.Passed.{Passed}
@@ -23,7 +24,7 @@ use Rattle.step.proofs.Laws.Perform.{steps-grow}
 use Rattle.step.proofs.Laws.Possible.{parts, depth-open, case-open}
 use Rattle.checker.specs.Answer.{Result, accepted}
 use Rattle.checker.specs.Check.{written}
-use Rattle.checker.specs.Plan.{PlanStep, instructionOf, recordOf, closing, planOf}
+use Rattle.checker.specs.Plan.{PlanStep, instructionOf, recordOf, planOf}
 use Rattle.checker.specs.Write.{Writing, writeTurn, stepsLeft}
 use Rattle.checker.specs.declared.plan.Step.{Step}
 use Rattle.checker.specs.declared.plan.Step.the-variants.{Write, Repeat}
@@ -41,7 +42,7 @@ use Rattle.demands.proofs.Laws.Runs.{runningOf, runs-above}
 use Rattle.demands.proofs.Laws.Steps.{Fits, linesAfter, step-holds, step-room}
 
 -- what a state of the writer stands for: some of the program's lines, and where the run is
-pub record Stands (t : Task) (program : Frame → Instruction) (s : Writing) (lines : Frame → Instruction) (r : Running) : Type 0 where
+pub record Stands (t : Layout) (program : Frame → Instruction) (s : Writing) (lines : Frame → Instruction) (r : Running) : Type 0 where
   pub running : r ≡ runningOf (s .position)
   pub holds : Holds (t .index .bounds) (s .lines) lines
   pub extends : Extends (Inside (t .index .bounds)) program lines
@@ -49,7 +50,7 @@ pub record Stands (t : Task) (program : Frame → Instruction) (s : Writing) (li
   pub room : length (s .lines) ≡ 768
 
 -- the writer's run from a state on, if it accepts: the program's visits, and the records of the steps that follow them
-pub record Ran (bytes : List ℕ) (t : Task) (program : Frame → Instruction) (s : Writing) (lines : Frame → Instruction) (r : Running) (k : ℕ) (plan : List ℕ) : Type 0 where
+pub record Ran (bytes : List ℕ) (t : Layout) (program : Frame → Instruction) (s : Writing) (lines : Frame → Instruction) (r : Running) (k : ℕ) (plan : List ℕ) : Type 0 where
   pub steps : List PlanStep
   pub last : Frame → Instruction
   pub end : Running
@@ -61,7 +62,7 @@ pub record Ran (bytes : List ℕ) (t : Task) (program : Frame → Instruction) (
   pub finished : end .case ≡ t .index .cases
 
 -- a program whose bytes hold some lines
-module _ (bytes : List ℕ) (t : Task) (passed : Passed bytes t) (program : List ℕ) (lines-of : Frame → Instruction)
+module _ (bytes : List ℕ) (t : Layout) (passed : Passed bytes t) (program : List ℕ) (lines-of : Frame → Instruction)
     (held : (f : Frame) → Inside (t .index .bounds) f → instructionOn (t .index) program (f .procedure) (f .line) ≡ Is (lines-of f)) where
   abbrev b : Bounds
   b = t .index .bounds

@@ -17,7 +17,7 @@ use Rattle.records.proofs.Laws.Tests.{cond-either}
 use Rattle.task.specs.Reading as Task
 use Rattle.task.specs.Verdict.{numberOf, valueOf}
 use Rattle.task.specs.declared.index.Index.{Index}
-use Rattle.task.specs.declared.index.Task.{Task}
+use Rattle.task.specs.declared.index.Layout.{Layout}
 use Rattle.task.specs.declared.instruction.Decoded.{Decoded}
 use Rattle.task.specs.declared.instruction.Decoded.the-variants.{Is, Nothing}
 use Rattle.task.specs.declared.instruction.Instruction.{Instruction}
@@ -168,7 +168,7 @@ module _ (bytes : List ℕ) (i : Index) (offsets plan : List ℕ) where
       λ f. ask-keeps (Read plan) (Came plan) _ _ _ (omega arith)
       λ g. cond-either Followed (eqb kind 5) _ _ (λ h. end-short s read next (omega arith) (r .2)) (λ h. turn-short s read next (omega arith) (r .2) kind body)
 
-pub follow-short : (bytes : List ℕ) (t : Task) (plan : List ℕ) → Came plan (Plan.follow bytes t plan)
+pub follow-short : (bytes : List ℕ) (t : Layout) (plan : List ℕ) → Came plan (Plan.follow bytes t plan)
 unfolding Plan.follow Plan.turnOf Plan.begin starting
 follow-short bytes t plan =
     loop-keeps (Read plan) (Came plan) (Plan.turnOf bytes (t .index) (t .offsets) plan) (Plan.left plan) _

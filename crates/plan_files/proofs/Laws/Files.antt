@@ -29,6 +29,6 @@ module _ (task plan buffer : List ℕ) where
 
 pub report-printed : (task plan : List ℕ) (checked : Answer) (reading : Reading) →
     checked ≡ checkFiles task plan (replicate 768 0) → reading ≡ readTask task →
-    reportText (checked .verdict) (reading .task .index) (checked .buffer) ≡ printed task plan
+    reportText (checked .verdict) (reading .layout .index) (checked .buffer) ≡ printed task plan
 unfolding printed
 report-printed task plan checked reading c r = rw (c, r)

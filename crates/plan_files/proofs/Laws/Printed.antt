@@ -38,7 +38,7 @@ refused-fine i question place q p =
 module _ (task plan : List ℕ) (t : length task ≤ LONGEST) (p : length plan ≤ LONGEST) (buffer : List ℕ) where
   -- what follows the task's verdict
   passing-fine : (size : ℕ) (v : Verdict) → readTask task .verdict ≡ v → Short (length task) v → (rest : Result) → Came plan rest
-      → Fine (readTask task .task .index) (answer size buffer (passing v rest) .verdict)
+      → Fine (readTask task .layout .index) (answer size buffer (passing v rest) .verdict)
   unfolding passing answer
   passing-fine size (Refused question place) e h rest c = refused-fine _ question place (h .0) (omega arith)
   passing-fine size (Accepted value) e h (refused question place) c = refused-fine _ question place (c .0) (omega arith)
@@ -46,10 +46,10 @@ module _ (task plan : List ℕ) (t : length task ≤ LONGEST) (p : length plan �
       let r = passed task value e in
       record { number = omega arith; value = omega arith; sound = λ _ _. (r .bounded, r .actions) }
 
-  check-fine : Fine (readTask task .task .index) (check task plan buffer .verdict)
+  check-fine : Fine (readTask task .layout .index) (check task plan buffer .verdict)
   unfolding check
   check-fine =
-      let read = readTask task .task in
+      let read = readTask task .layout in
       passing-fine _ _ refl (task-short task) _
       (cond-either (Came plan) (leb (programSize (read .index .bounds)) (length buffer)) (follow task read plan) (refused BUFFER 0)
       (λ e. follow-short task read plan) (λ e. omega arith))
@@ -57,7 +57,7 @@ module _ (task plan : List ℕ) (t : length task ≤ LONGEST) (p : length plan �
 printed-most : (task plan : List ℕ) → length (printed task plan) ≤ 3695
 unfolding printed checkFiles
 printed-most task plan =
-    let i = readTask task .task .index in
+    let i = readTask task .layout .index in
     let short : (a : Answer) → Fine i (a .verdict) → length (reportText (a .verdict) i (a .buffer)) ≤ 3695
     = λ a f. report-most (a .verdict) i (a .buffer) (f .number) (f .value) (f .sound) in
     cond-either (λ (a : Answer). length (reportText (a .verdict) i (a .buffer)) ≤ 3695) (leb (length task) LONGEST && leb (length plan) LONGEST) _ _

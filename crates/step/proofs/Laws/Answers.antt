@@ -11,8 +11,8 @@ use borrow.Author.Tests.{lt-ltb, le-ltb}
 use Rattle.records.specs.Loop.{stop, go}
 use Rattle.records.proofs.Laws.Loop.{ask-yes, ask-no}
 use Rattle.records.proofs.Laws.Tests.{cond-yes, cond-no}
-use Rattle.task.specs.Index.{actionAt, caseAt}
-use Rattle.task.specs.declared.index.Action.{Action}
+use Rattle.task.specs.Index.{actionAt, effectsOf, caseAt}
+use Rattle.task.specs.declared.index.ActionFront.{ActionFront}
 use Rattle.task.specs.declared.index.Case.{Case}
 use Rattle.task.specs.declared.index.Index.{Index}
 use Rattle.task.specs.declared.instruction.Line.{Line}
@@ -22,7 +22,7 @@ use Rattle.task.specs.declared.instruction.Instruction.the-variants.{Act, Goto,
 use Rattle.task.specs.declared.instruction.Decoded.{Decoded}
 use Rattle.task.specs.declared.instruction.Decoded.the-variants.{Is}
 use Rattle.task.specs.Program.{instructionOn}
-use Rattle.step.specs.Effects.{effectsOf, changesOf, clashFree, changed}
+use Rattle.step.specs.Effects.{changesOf, clashFree, changed}
 use Rattle.step.specs.Facts.{holds}
 use Rattle.step.specs.Moved.{movedBy, performedAs}
 use Rattle.step.specs.Perform.{act, goto, call, afterCase, end, perform, performDecoded, runLine, runStep}
@@ -35,7 +35,7 @@ use Rattle.step.specs.declared.position.Frame.{Frame}
 use Rattle.step.specs.declared.position.Position.{Position}
 
 -- act: `h` says whether the precondition holds, `n` whether there is no clash
-module _ (bytes : List ℕ) (at facts : ℕ) (a : Action) (e : a ≡ actionAt bytes at) (h : Bool) (f : h ≡ holds facts (a .precondition)) where
+module _ (bytes : List ℕ) (at facts : ℕ) (a : ActionFront) (e : a ≡ actionAt bytes at) (h : Bool) (f : h ≡ holds facts (a .precondition)) where
   pub act-refused : h ≡ false → (i : Index) (s : Position) (action : ℕ) → s .facts ≡ facts
       → performedAs bytes i s (Act action) (No PRECONDITION) ≡ act bytes at s
   unfolding act performedAs

@@ -10,10 +10,10 @@ use native.Mathlib.Nat.{lt-of-le-of-lt}
 use native.Mathlib.Omega.{arith}
 use lib.Bits.{bitAnd, bitOr, and-le-l, or-lt}
 use lib.Dec.{eqb}
-use Rattle.task.specs.Index.{actionAt, effectAt}
+use Rattle.task.specs.Index.{rowFrom, actionAt, effectAt, effectsOf}
 use Rattle.task.specs.declared.index.Effect.{Effect}
 use Rattle.step.specs.Facts.{has, setOf, holds}
-use Rattle.step.specs.Effects.{effectsFrom, effectsOf, fired, someHas, changesOf, clashFree, trueAfter, changed}
+use Rattle.step.specs.Effects.{fired, someHas, changesOf, clashFree, trueAfter, changed}
 use Rattle.step.specs.declared.effects.Changes.{Changes}
 use Rattle.step.proofs.Laws.Facts.{has-and, has-or, has-without, has-above, without, without-lt, word-set, set-below, word-none}
 
@@ -24,7 +24,7 @@ module _ (bytes : List ℕ) (at state count : ℕ) (part : Effect → ℕ) where
     pub below : e ≤ count
     pub small : w < 2 ^ 64
     pub found : (f : ℕ)
-        → (has w f || someHas part (fired state (effectsFrom bytes at e (count - e))) f) ≡ someHas part (fired state (effectsFrom bytes at 0 count)) f
+        → (has w f || someHas part (fired state (rowFrom (effectAt bytes at) e (count - e))) f) ≡ someHas part (fired state (rowFrom (effectAt bytes at) 0 count)) f
 
   pub walk-begins : Walked 0 0
   walk-begins =
@@ -41,18 +41,18 @@ module _ (bytes : List ℕ) (at state count : ℕ) (part : Effect → ℕ) where
   -- `b` says whether it fires
   pub walk-on : (e w : ℕ) → Walked e w → e < count → (x : Effect) → x ≡ effectAt bytes at e → (b : Bool) → b ≡ holds state (x .condition)
       → cond b (bitOr w (part x)) w < 2 ^ 64 → Walked (e + 1) (cond b (bitOr w (part x)) w)
-  unfolding effectsFrom fired
+  unfolding rowFrom fired
   walk-on e w h l x i b j m =
       let n : count - e ≡ suc (count - suc e) = omega arith in
       record {
         below = omega arith;
         small = m;
         found =
-            λ f. rw add-one (with-one b w f x (fired state (effectsFrom bytes at (suc e) (count - suc e))) ∙ rw (j, i) (rw n at (h .found f)));
+            λ f. rw add-one (with-one b w f x (fired state (rowFrom (effectAt bytes at) (suc e) (count - suc e))) ∙ rw (j, i) (rw n at (h .found f)));
       }
 
-  pub walk-ends : (e w : ℕ) → Walked e w → count ≤ e → w ≡ setOf 64 (someHas part (fired state (effectsFrom bytes at 0 count)))
-  unfolding effectsFrom fired someHas
+  pub walk-ends : (e w : ℕ) → Walked e w → count ≤ e → w ≡ setOf 64 (someHas part (fired state (rowFrom (effectAt bytes at) 0 count)))
+  unfolding rowFrom fired someHas
   walk-ends e w h l =
       let k : count - e ≡ 0 = omega arith in
       word-set w _ (h .small) (λ f. sym (or-false (has w f)) ∙ (rw k at (h .found f)))
@@ -84,11 +84,11 @@ module _ (k state : ℕ) where
     one-below false x rest f h l e = e
 
     fired-below : (bytes : List ℕ) (at e left : ℕ) → ((n : ℕ) → n < e + left → part (effectAt bytes at n) < 2 ^ k) → (f : ℕ) → k ≤ f
-        → someHas part (fired state (effectsFrom bytes at e left)) f ≡ false
-    unfolding effectsFrom fired someHas
+        → someHas part (fired state (rowFrom (effectAt bytes at) e left)) f ≡ false
+    unfolding rowFrom fired someHas
     fired-below bytes at e zero h f l = refl
     fired-below bytes at e (suc left) h f l =
-        one-below (holds state (effectAt bytes at e .condition)) (effectAt bytes at e) (fired state (effectsFrom bytes at (suc e) left)) f
+        one-below (holds state (effectAt bytes at e .condition)) (effectAt bytes at e) (fired state (rowFrom (effectAt bytes at) (suc e) left)) f
         (h e (omega arith)) l (fired-below bytes at (suc e) left (λ n m. h n (omega arith)) f l)
 
   pub effects-below : (bytes : List ℕ) (at : ℕ) → state < 2 ^ k

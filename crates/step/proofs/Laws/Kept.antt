@@ -15,19 +15,19 @@ use borrow.Author.Tests.{ltb-true, leb-true, eqb-true, lt-ltb, le-ltb, le-leb, e
 use Rattle.records.specs.Loop.{go}
 use Rattle.records.proofs.Laws.Tests.{both-true}
 use Rattle.task.specs.Facts.{within, consistent}
-use Rattle.task.specs.Index.{caseAt}
+use Rattle.task.specs.Index.{effectsOf, caseAt}
 use Rattle.task.specs.Instruction.{allowed}
 use Rattle.task.specs.Program.{instructionOn}
 use Rattle.task.specs.declared.bounds.Bounds.{Bounds}
 use Rattle.task.specs.declared.index.Index.{Index}
-use Rattle.task.specs.declared.index.Task.{Task}
+use Rattle.task.specs.declared.index.Layout.{Layout}
 use Rattle.task.specs.declared.instruction.Instruction.{Instruction}
 use Rattle.task.specs.declared.instruction.Line.{Line}
 use Rattle.task.specs.declared.instruction.Proc.{Proc}
 use Rattle.task.proofs.Laws.Bounds.{Ranges, ranges}
 use Rattle.task.proofs.Laws.Instruction.{Allowed, allows, decode-allowed}
 use Rattle.task.proofs.Laws.Passed.{Passed}
-use Rattle.step.specs.Effects.{effectsOf, changesOf, changed}
+use Rattle.step.specs.Effects.{changesOf, changed}
 use Rattle.step.specs.Perform.{perform, runStep}
 use Rattle.step.specs.Position.{origin, starting, top, jumped, advanced, pushed, popped, withFacts, nextCase, finished, counted}
 use Rattle.step.specs.Possible.{inUse, unused, frameFits, depthFits, possible}
@@ -170,7 +170,7 @@ module _ (i : Index) where
         let p = sound .parts in
         record { parts = record { case = p .case; facts = p .facts; steps = omega arith; depth = p .depth; frames = p .frames }; room = sound .room }
 
-module _ (bytes : List ℕ) (t : Task) (passed : Passed bytes t) where
+module _ (bytes : List ℕ) (t : Layout) (passed : Passed bytes t) where
   abbrev i : Index
   i = t .index
 

@@ -14,7 +14,7 @@ use borrow.Author.Tests.{ltb-true, ltb-false}
 use Rattle.records.specs.Loop.{Turn, go, ask}
 use Rattle.records.proofs.Laws.Loop.{stop-go, Keeps, ask-keeps}
 use Rattle.records.proofs.Laws.Tests.{cond-either, cond-yes, cond-no}
-use Rattle.task.specs.Index.{actionAt, caseAt}
+use Rattle.task.specs.Index.{actionAt, effectsOf, caseAt}
 use Rattle.task.specs.Program.{instructionOn}
 use Rattle.task.specs.declared.index.Index.{Index}
 use Rattle.task.specs.declared.instruction.Line.{Line}
@@ -23,7 +23,7 @@ use Rattle.task.specs.declared.instruction.Instruction.{Instruction}
 use Rattle.task.specs.declared.instruction.Instruction.the-variants.{Empty, Act, Goto, Call, End}
 use Rattle.task.specs.declared.instruction.Decoded.{Decoded}
 use Rattle.task.specs.declared.instruction.Decoded.the-variants.{Is, Nothing}
-use Rattle.step.specs.Effects.{effectsOf, changesOf, clashFree, changed}
+use Rattle.step.specs.Effects.{changesOf, clashFree, changed}
 use Rattle.step.specs.Facts.{has, holds}
 use Rattle.step.specs.Perform.{act, goto, call, afterCase, end, perform, performDecoded, runLine, runStep}
 use Rattle.step.specs.Moved.{movedBy, performedAs}

@@ -9,7 +9,7 @@ use native.Mathlib.Decide.{ℕ-discrete}
 use native.Mathlib.Omega.{arith}
 use lib.ListN.{length}
 use Rattle.task.specs.declared.index.Index.{Index}
-use Rattle.task.specs.declared.index.Task.{Task}
+use Rattle.task.specs.declared.index.Layout.{Layout}
 use Rattle.task.specs.declared.instruction.Decoded.the-variants.{Is}
 use Rattle.task.specs.declared.instruction.Instruction.{Instruction}
 use Rattle.task.specs.declared.instruction.Instruction.the-variants.{Act, Goto}
@@ -28,7 +28,7 @@ use Rattle.step.proofs.Laws.Kept.{top-used}
 use Rattle.step.proofs.Laws.Possible.{parts, depth-open}
 
 -- a task that passes has them
-pub passed-held : (bytes : List ℕ) (t : Task) → Passed bytes t → Held bytes (t .index) (t .offsets)
+pub passed-held : (bytes : List ℕ) (t : Layout) → Passed bytes t → Held bytes (t .index) (t .offsets)
 passed-held bytes t p =
     record {
       task = record { ranges = p .bounded; actions = p .actions; cases = p .cases .1 };

@@ -15,7 +15,7 @@ use Rattle.task.specs.Program.{programVerdict}
 use Rattle.task.specs.Reading.{readTask}
 use Rattle.task.specs.Verdict.{valueOf}
 use Rattle.task.specs.declared.index.Index.{Index}
-use Rattle.task.specs.declared.index.Task.{Task}
+use Rattle.task.specs.declared.index.Layout.{Layout}
 use Rattle.task.specs.declared.reading.Reading.{Reading}
 use Rattle.task.specs.declared.verdict.Verdict.{Verdict}
 use Rattle.task.specs.declared.verdict.Verdict.the-variants.{Accepted, Refused}
@@ -64,27 +64,27 @@ module _ (bytes program : List ℕ) (s : Position) (r : Reading) (e : r ≡ read
   unfolding onReading following
   task-refused question place h = rw h (rw h at on-reading)
 
-  module _ (value : ℕ) (h : r .verdict ≡ Accepted value) (v : Verdict) (g : v ≡ programVerdict (r .task .index) (r .task .presets) program) where
+  module _ (value : ℕ) (h : r .verdict ≡ Accepted value) (v : Verdict) (g : v ≡ programVerdict (r .layout .index) (r .layout .presets) program) where
     pub program-refused : (question place : ℕ) → v ≡ Refused question place → unchanged s v ≡ singleStep bytes program s
     unfolding onReading following
     program-refused question place k = rw k (rw (h, ← g, k) at on-reading)
 
-    pub both-passed : (value : ℕ) → v ≡ Accepted value → stepOnce bytes (r .task .index) (r .task .offsets) program s ≡ singleStep bytes program s
+    pub both-passed : (value : ℕ) → v ≡ Accepted value → stepOnce bytes (r .layout .index) (r .layout .offsets) program s ≡ singleStep bytes program s
     unfolding onReading following
     both-passed value k = rw (h, ← g, k) at on-reading
 
 -- a finished run stays as it is
 pub finished-stays : (bytes program : List ℕ) (s : Position) (v p : ℕ) → readTask bytes .verdict ≡ Accepted v
-    → programVerdict (readTask bytes .task .index) (readTask bytes .task .presets) program ≡ Accepted p
-    → possible (readTask bytes .task .index) s ≡ true → s .depth ≡ 0 → singleStep bytes program s ≡ record { verdict = Accepted 0; position = s }
+    → programVerdict (readTask bytes .layout .index) (readTask bytes .layout .presets) program ≡ Accepted p
+    → possible (readTask bytes .layout .index) s ≡ true → s .depth ≡ 0 → singleStep bytes program s ≡ record { verdict = Accepted 0; position = s }
 unfolding unchanged
 finished-stays bytes program s v p h k l d =
     sym (step-finished bytes _ _ program s true (sym l) refl d ∙ both-passed bytes program s (readTask bytes) refl v h _ refl p k)
 
 -- what the answers of the single step say, of every answer that the definition can give
 module _ (bytes program : List ℕ) (s : Position) where
-  abbrev t : Task
-  t = readTask bytes .task
+  abbrev t : Layout
+  t = readTask bytes .layout
 
   -- a step was made, to a position
   pub record Made (u : Position) : Type 0 where

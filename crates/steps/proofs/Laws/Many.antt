@@ -52,7 +52,7 @@ module _ (bytes program : List ℕ) (count : ℕ) (s : Position) (r : Reading) (
   unfolding manyOnReading onward
   many-task-refused question place h = rw h (rw h at on-reading)
 
-  pub many-program-refused : (value : ℕ) → r .verdict ≡ Accepted value → (v : Verdict) → v ≡ programVerdict (r .task .index) (r .task .presets) program
+  pub many-program-refused : (value : ℕ) → r .verdict ≡ Accepted value → (v : Verdict) → v ≡ programVerdict (r .layout .index) (r .layout .presets) program
       → (question place : ℕ) → v ≡ Refused question place → takenTo v 0 s ≡ manySteps bytes program count s
   unfolding manyOnReading onward
   many-program-refused value h v g question place k = rw k (rw (h, ← g, k) at on-reading)
@@ -62,12 +62,12 @@ pub record BothPass (bytes program : List ℕ) (r : Reading) (v : Verdict) : Typ
   pub read : r ≡ readTask bytes
   pub value : ℕ
   pub task : r .verdict ≡ Accepted value
-  pub asked : v ≡ programVerdict (r .task .index) (r .task .presets) program
+  pub asked : v ≡ programVerdict (r .layout .index) (r .layout .presets) program
   pub own : ℕ
   pub passes : v ≡ Accepted own
 
 -- and then 31: `p` says whether the position is possible
-module _ (bytes program : List ℕ) (r : Reading) (v : Verdict) (b : BothPass bytes program r v) (s : Position) (p : Bool) (f : p ≡ possible (r .task .index) s) where
+module _ (bytes program : List ℕ) (r : Reading) (v : Verdict) (b : BothPass bytes program r v) (s : Position) (p : Bool) (f : p ≡ possible (r .layout .index) s) where
   pub many-impossible : p ≡ false → (count : ℕ) → takenTo (Refused POSSIBLE 0) 0 s ≡ manySteps bytes program count s
   unfolding manyOnReading onward
   many-impossible z count = rw (b .task, ← (b .asked), b .passes, ← f, z) at (on-reading bytes program count s r (b .read))
@@ -76,7 +76,7 @@ module _ (bytes program : List ℕ) (r : Reading) (v : Verdict) (b : BothPass by
   unfolding manyOnReading onward
   many-runs y count wanted c = rw c (rw (b .task, ← (b .asked), b .passes, ← f, y) at (on-reading bytes program count s r (b .read)))
 
-  pub many-admitted : p ≡ true → length (s .frames) ≡ 16 → Admitted bytes (r .task .index) (r .task .offsets) program s
+  pub many-admitted : p ≡ true → length (s .frames) ≡ 16 → Admitted bytes (r .layout .index) (r .layout .offsets) program s
   many-admitted y size =
       record {
         value = b .value;

@@ -16,7 +16,7 @@ use Rattle.records.specs.Loop.{Turn, stop, go, ask}
 use Rattle.task.specs.Program.{instructionOn}
 use Rattle.task.specs.Reading.{readTask}
 use Rattle.task.specs.declared.index.Index.{Index}
-use Rattle.task.specs.declared.index.Task.{Task}
+use Rattle.task.specs.declared.index.Layout.{Layout}
 use Rattle.task.specs.declared.instruction.Decoded.the-variants.{Is}
 use Rattle.task.specs.declared.instruction.Instruction.{Instruction}
 use Rattle.task.specs.declared.instruction.Instruction.the-variants.{Empty, Act, Goto, Call, End}
@@ -162,8 +162,8 @@ Refuses bytes program first wanted h frames question =
 
 -- task, program and position were admitted
 module _ (bytes : List ℕ) (i : Index) (offsets program : List ℕ) (first : Position) (a : Admitted bytes i offsets program first) where
-  abbrev t : Task
-  t = readTask bytes .task
+  abbrev t : Layout
+  t = readTask bytes .layout
 
   passes : Passed bytes t
   passes = passed bytes (a .value) (a .task)

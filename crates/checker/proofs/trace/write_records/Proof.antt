@@ -5,7 +5,8 @@ use Prim.Native.Nat.{_-_, _≤_}
 use mathlib.Core.Path.{_≡_}
 use native.Mathlib.Omega.{arith}
 use borrow.Author.Needs.{needs}
-use Rattle.checker.specs.Plan.{closing}
+use Rattle.records.specs.Numbers.{numberBytes}
+use Rattle.records.specs.Record.{recordBytes, closing}
 use Rattle.checker.specs.Trace.{Spelled}
 use Rattle.checker.proofs.Laws.Records.{Putting, puts-none, puts-more, puts-closing, buffer-small}
 use Rattle.checker.proofs.trace.write_records.Statement.{statement}
@@ -89,7 +90,7 @@ same-length : tie.Need-same-length Inv-loop μ-loop
 same-length c = search needs
 
 returns-2 : tie.Need-returns-2 Inv-loop μ-loop
-unfolding closing
+unfolding closing recordBytes numberBytes
 returns-2 c =
     let at-put2 = c .before .before in
     let at-loop-test = at-put2 .before .before .before in

@@ -5,8 +5,9 @@ use mathlib.Core.Bool.{true, false}
 use native.Mathlib.Omega.{arith}
 use lib.Bits.{or-lt}
 use Prim.Native.Nat.{_-_}
+use Rattle.task.specs.Index.{effectsOf}
 use Rattle.task.specs.declared.index.Effect.{Effect}
-use Rattle.step.specs.Effects.{effectsOf, changesOf}
+use Rattle.step.specs.Effects.{changesOf}
 use Rattle.step.proofs.Laws.Effects.{Walked, walk-begins, walk-on, walk-ends}
 use Rattle.step.proofs.effects.changes_of.Statement.{statement}
 use Rattle.step.proofs.effects.changes_of.Tie as tie

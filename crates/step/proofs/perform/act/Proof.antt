@@ -3,7 +3,7 @@
 use mathlib.Core.Path.{ap}
 use native.Mathlib.Omega.{arith}
 use borrow.Author.Tests.{not-true, not-false, eq-eqb, ne-eqb}
-use Rattle.task.specs.declared.index.Action.{Action}
+use Rattle.task.specs.declared.index.ActionFront.{ActionFront}
 use Rattle.step.proofs.Laws.Effects.{clash-word, changed-word}
 use Rattle.step.proofs.Laws.Answers.{act-refused, act-clashes, act-moves}
 use Rattle.step.proofs.perform.act.Statement.{statement}
@@ -26,7 +26,7 @@ returns c =
 changes-of-requires : tie.Need-changes-of-requires
 changes-of-requires c κs =
     let at-action-at = c .before .before in
-    let same = ap (λ (a : Action). a .effects) (at-action-at .action-at .ensures) in
+    let same = ap (λ (a : ActionFront). a .effects) (at-action-at .action-at .ensures) in
     (same, rw same (at-action-at .before .before .pre))
 
 returns-2 : tie.Need-returns-2

@@ -63,7 +63,7 @@ returns-3 c =
     let at-enum-told = at-check-program .before .before .before .before .before .before in
     let at-read-task = at-enum-told .before .before in
     let a = at-read-task .before .before .before .args in
-    let read = at-read-task .read-task .result .task in
+    let read = at-read-task .read-task .result .layout in
     _∙_ {b = stepOnce (a .task .now) (read .index) (read .offsets) (a .program .now) (a .position)} (c .step-once .ensures)
     (both-passed (a .task .now) (a .program .now) (a .position) (at-read-task .read-task .result) (at-read-task .read-task .ensures) _ (at-enum-told .enum-told .given .1)
     (at-check-program .check-program .result) (at-check-program .check-program .ensures) _ (at-enum-told3 .enum-told3 .given .1))
