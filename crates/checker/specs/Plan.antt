@@ -7,7 +7,7 @@ use lib.Dec.{eqb}
 use Rattle.records.specs.Numbers.{byteAt}
 use Rattle.records.specs.Record.{recordBytes, closing}
 use Rattle.task.specs.Bounds.{between}
-use Rattle.task.specs.Instruction.{encode}
+use Rattle.task.specs.Instruction.{encodeFor}
 use Rattle.task.specs.declared.instruction.Instruction.{Instruction}
 use Rattle.step.specs.declared.position.Frame.{Frame}
 use Rattle.checker.specs.declared.plan.Step.{Step}
@@ -44,11 +44,9 @@ lengthFits kind size = cond (eqb kind 5) (eqb size 0) (eqb size 5)
 unfoldable pub frameAt : List ℕ → ℕ → Frame
 frameAt plan body = record { procedure = record { 0 = byteAt plan body }; line = record { 0 = byteAt plan (body + 1) } }
 
--- the bytes of a step's record: its body is the procedure, the line, and the instruction's three bytes
+-- the bytes of a step's record: its body is procedure, line, instruction
 unfoldable pub recordOf : PlanStep → List ℕ
-recordOf s =
-    let w = encode (instructionOf (s .step)) in
-    recordBytes (kindOf (s .step)) (s .frame .procedure .0 ∷ s .frame .line .0 ∷ w .op ∷ w .p ∷ w .q ∷ [])
+recordOf s = recordBytes (kindOf (s .step)) (encodeFor (s .frame .procedure) (s .frame .line) (instructionOf (s .step)))
 
 -- the bytes of a plan: its steps' records, and the closing one
 unfoldable pub planOf : List PlanStep → List ℕ

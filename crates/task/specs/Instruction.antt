@@ -1,6 +1,6 @@
 -- Instructions: three bytes op, p, q, the instruction that they spell, and the lines on which it is allowed.
 use Prim.Native.Nat.{ℕ, _+_}
-use mathlib.Core.List.{List}
+use mathlib.Core.List.{List, [], _∷_}
 use mathlib.Core.Bool.{Bool, true, false, cond, _&&_}
 use lib.ListN.{set}
 use lib.Dec.{leb, ltb, eqb}
@@ -63,6 +63,10 @@ encode (Act action) = record { op = 1; p = action; q = 0 }
 encode (Goto target fact) = record { op = 2; p = target .0; q = fact }
 encode (Call procedure) = record { op = 3; p = procedure .0; q = 0 }
 encode End = record { op = 4; p = 0; q = 0 }
+
+-- the five bytes of an instruction for a line of a procedure, as a preset and a plan's step have them
+abbrev pub encodeFor : Proc → Line → Instruction → List ℕ
+encodeFor procedure line w = let t = encode w in procedure .0 ∷ line .0 ∷ t .op ∷ t .p ∷ t .q ∷ []
 
 -- the three bytes at an offset
 unfoldable pub tripleAt : List ℕ → ℕ → Triple

@@ -4,7 +4,7 @@ use Prim.Native.Nat.{ℕ}
 use mathlib.Core.List.{List, [], _∷_, _++_, flatMap}
 use Rattle.records.specs.Numbers.{u16Bytes, u64Bytes}
 use Rattle.records.specs.Record.{recordBytes, closing}
-use Rattle.task.specs.Instruction.{encode}
+use Rattle.task.specs.Instruction.{encodeFor}
 use Rattle.task.specs.Task.{Action, Preset, Task}
 use Rattle.task.specs.declared.bounds.Bounds.{Bounds}
 use Rattle.task.specs.declared.facts.Literals.{Literals}
@@ -31,11 +31,9 @@ boundsRecord b = recordBytes 1 (b .facts ∷ b .procedures ∷ b .last ∷ b .st
 unfoldable pub actionRecord : Action → List ℕ
 actionRecord a = recordBytes 2 (flatMap pairBytes (actionPairs a))
 
--- kind 3, length 5: procedure, line, and the instruction's three bytes
+-- kind 3, length 5: procedure, line, instruction
 unfoldable pub presetRecord : Preset → List ℕ
-presetRecord p =
-    let w = encode (p .instruction) in
-    recordBytes 3 (p .procedure .0 ∷ p .line .0 ∷ w .op ∷ w .p ∷ w .q ∷ [])
+presetRecord p = recordBytes 3 (encodeFor (p .procedure) (p .line) (p .instruction))
 
 -- kind 4, length 24: the facts true at the start, and the goal pair
 unfoldable pub caseRecord : Case → List ℕ

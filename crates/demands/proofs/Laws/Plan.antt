@@ -18,10 +18,8 @@ use Rattle.records.proofs.Laws.Bytes.{byte-behind, record-read, body-read, rest
 use Rattle.records.proofs.Laws.Numbers.{there}
 use Rattle.records.proofs.Laws.Record.{record-ends}
 use Rattle.records.proofs.Laws.Tests.{both-true, cond-either}
-use Rattle.task.specs.Instruction.{encode, tripleAt}
+use Rattle.task.specs.Instruction.{encode, encodeFor, tripleAt}
 use Rattle.task.specs.declared.instruction.Instruction.{Instruction}
-use Rattle.task.specs.declared.instruction.Triple.{Triple}
-use Rattle.step.specs.declared.position.Frame.{Frame}
 use Rattle.checker.proofs.Laws.Check.{step-instruction}
 use Rattle.checker.specs.Plan.{PlanStep, instructionOf, kindOf, stepOf, isKind, lengthFits, frameAt, recordOf, planOf}
 use Rattle.checker.specs.declared.plan.Step.{Step}
@@ -68,10 +66,6 @@ unfolding isKind lengthFits kindOf
 step-asked (Write w) = (refl, refl, refl)
 step-asked (Repeat w) = (refl, refl, refl)
 
--- the body of a step's record, from its frame and its three bytes
-abbrev bodyOf : Frame → Triple → List ℕ
-bodyOf f w = f .procedure .0 ∷ f .line .0 ∷ w .op ∷ w .p ∷ w .q ∷ []
-
 kind-small : (s : Step) → kindOf s < 2 ^ 16
 unfolding kindOf
 kind-small (Write w) = omega arith
@@ -101,11 +95,6 @@ frame-behind : (plan : List ℕ) (at : ℕ) → frameAt plan at ≡ frameAt (dro
 unfolding frameAt
 frame-behind plan at = cc (byte-behind plan at 0, byte-behind plan at 1, add-zero at)
 
--- five bytes are a step's body
-body-bytes : (l : List ℕ) → 5 ≤ length l → take 5 l ≡ bodyOf (frameAt l 0) (tripleAt l 2)
-unfolding frameAt
-body-bytes l h = ap (take 5) (five-bytes l h)
-
 -- what the checker reads at an offset where a step's record is: it passes questions 12 and 13, does not close the plan, names the step's
 -- frame and spells its instruction; then come the bytes behind it
 pub record Reads (plan : List ℕ) (at : ℕ) (a : PlanStep) (rest : List ℕ) : Type 0 where
@@ -124,7 +113,7 @@ pub step-read : (plan : List ℕ) (at : ℕ) (a : PlanStep) (rest : List ℕ) �
 unfolding recordOf frameAt tripleAt
 step-read plan at a rest h =
     let kind = kindOf (a .step) in
-    let body = bodyOf (a .frame) (encode (instructionOf (a .step))) in
+    let body = encodeFor (a .frame .procedure) (a .frame .line) (instructionOf (a .step)) in
     let asked = step-asked (a .step) in
     let there = body-read plan at kind body rest h in
     record {
@@ -145,7 +134,7 @@ module _ (plan : List ℕ) (at kind body size next : ℕ) (found : recordAt plan
     (fits : lengthFits kind size ≡ true) where
   pub step-written : isKind kind ≡ true → eqb kind 5 ≡ false → (w : Instruction) → tripleAt plan (body + 2) ≡ encode w
       → drop at plan ≡ recordOf (record { frame = frameAt plan body; step = stepOf kind w }) ++ drop next plan
-  unfolding lengthFits recordOf
+  unfolding lengthFits recordOf frameAt
   step-written h k w t =
       let five = eqb-true size 5 (rw k at fits) in
       let ends = record-ends plan at kind body size next found in
@@ -154,9 +143,11 @@ module _ (plan : List ℕ) (at kind body size next : ℕ) (found : recordAt plan
       ∙ cc (
         kind-again kind w h k,
         step-instruction kind w,
-        frame-behind plan body,
+        add-zero body,
+        byte-behind plan body 0,
+        byte-behind plan body 1,
         triple-behind plan body 2,
-        body-bytes (drop body plan) (omega (arith, length-drop body plan)),
+        ap (take 5) (five-bytes (drop body plan) (omega (arith, length-drop body plan))),
       )
 
   pub end-written : eqb kind 5 ≡ true → next ≡ length plan → drop at plan ≡ closing

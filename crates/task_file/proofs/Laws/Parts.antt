@@ -18,7 +18,7 @@ use Rattle.records.proofs.Laws.Record.{record-ends}
 use Rattle.task.specs.Bounds.{boundsAt}
 use Rattle.task.specs.Facts.{literalsAt, consistent, pairConsistent, pairsBeforeFault}
 use Rattle.task.specs.Index.{rowFrom, actionAt, effectAt, effectsOf}
-use Rattle.task.specs.Instruction.{encode, tripleAt}
+use Rattle.task.specs.Instruction.{encode, encodeFor, tripleAt}
 use Rattle.task.specs.Task.{Action, Preset}
 use Rattle.task.specs.TaskAt.{actionOf}
 use Rattle.task.specs.declared.bounds.Bounds.{Bounds}
@@ -188,7 +188,7 @@ module _ (bytes : List ℕ) where
   -- a preset whose record stands at an offset
   module _ (at : ℕ) (p : Preset) (rest : List ℕ) (h : drop at bytes ≡ presetRecord p ++ rest) where
     abbrev preset-body : List ℕ
-    preset-body = p .procedure .0 ∷ p .line .0 ∷ encode (p .instruction) .op ∷ encode (p .instruction) .p ∷ encode (p .instruction) .q ∷ []
+    preset-body = encodeFor (p .procedure) (p .line) (p .instruction)
 
     pub preset-found : recordAt bytes at ≡ Record 3 (at + 4) 5 (at + 4 + 5)
     unfolding presetRecord
