@@ -1,10 +1,11 @@
 -- Fact sets and literals. A fact set is a number of 8 bytes in which bit f says whether fact f is in it. A pair of them states literals:
 -- the first has the facts that are to be true, the second those that are to be false. Question 6 is about the sets and pairs of a task.
-use Prim.Native.Nat.{ℕ, _+_, _*_, _^_, _<_}
+use Prim.Native.Nat.{ℕ, _+_, _*_, _/_, _^_, _<_}
 use mathlib.Core.Path.{_≡_}
 use mathlib.Core.List.{List}
 use mathlib.Core.Bool.{Bool, _&&_}
 use lib.Dec.{leb, ltb, eqb}
+use lib.ListN.{length}
 use lib.Bits.{bitAnd}
 use Rattle.records.specs.Numbers.{u64At}
 use Rattle.task.specs.First.{firstNo}
@@ -31,5 +32,9 @@ unfoldable pub pairConsistent : ℕ → List ℕ → ℕ → ℕ → Bool
 pairConsistent facts bytes at k = consistent facts (literalsAt bytes (at + 16 * k))
 
 -- of `count` such pairs, how many stand before the first that fails question 6; `count` where none does
-unfoldable pub pairsBeforeFault : ℕ → List ℕ → ℕ → ℕ → ℕ
-pairsBeforeFault facts bytes at count = firstNo (pairConsistent facts bytes at) count
+unfoldable pub pairsBeforeFaultAt : ℕ → List ℕ → ℕ → ℕ → ℕ
+pairsBeforeFaultAt facts bytes at count = firstNo (pairConsistent facts bytes at) count
+
+-- how many pairs of an action's body, in file order, stand before the first that fails question 6; fewer than 16 bytes at its end are no pair
+unfoldable pub pairsBeforeFault : ℕ → List ℕ → ℕ
+pairsBeforeFault facts body = pairsBeforeFaultAt facts body 0 (length body / 16)

@@ -11,7 +11,7 @@ use Rattle.records.specs.Record.{recordAt}
 use Rattle.records.specs.declared.record.Found.{Found}
 use Rattle.records.specs.declared.record.Found.the-variants.{Record, Missing}
 use Rattle.task.specs.Bounds.{boundsAt, between, inRange}
-use Rattle.task.specs.Facts.{literalsAt, within, consistent, pairsBeforeFault}
+use Rattle.task.specs.Facts.{literalsAt, within, consistent, pairsBeforeFaultAt}
 use Rattle.task.specs.Instruction.{decodeFor, encode, tripleAt, withTriple}
 use Rattle.task.specs.Program.{lineOffset}
 use Rattle.task.specs.Questions.{WHOLE, KIND, LENGTH, COUNT, BOUNDS, SETS, PRESET, REPEATED, CLOSED}
@@ -89,7 +89,7 @@ module _ (bytes : List ℕ) (s : State) (body : ℕ) where
   unfoldable pub actionTurn : ℕ → ℕ → Turn State Reading
   actionTurn size next =
       ask (ltb (index .actions) 64) (refused COUNT at)
-      (ask (eqb (pairsBeforeFault (index .bounds .facts) bytes body (size / 16)) (size / 16)) (refused SETS at)
+      (ask (eqb (pairsBeforeFaultAt (index .bounds .facts) bytes body (size / 16)) (size / 16)) (refused SETS at)
       (go
       (record {
         progress =

@@ -1,7 +1,7 @@
 // Fact sets and literals, and question 6 about them.
 use records::numbers::eight_at;
 ghost use mathlib.Core.Path.{_≡_};
-ghost use Prim.Native.Nat.{ℕ, _+_, _*_, _≤_};
+ghost use Prim.Native.Nat.{ℕ, _+_, _≤_};
 ghost use lib.ListN.{length};
 ghost use Rattle.task.specs.Facts.{literalsAt, within, Greatest, consistent, pairsBeforeFault};
 
@@ -23,24 +23,20 @@ pub(crate) fn literals_at(bytes: &[u8], at: usize) -> Literals
 }
 
 // The greatest set of facts below `facts`: a set has such facts alone exactly if it is no greater. Of `(1 << facts) - 1` the compiler would make
-// a shift of each set that is compared with it.
+// a shift of each set that is compared with it. 63 ones are shifted: 64 would, with 0 facts, have to be shifted by 64, which is no shift of a word.
 pub(crate) fn most(facts: u8) -> u64
-    requires { ⌜ (1 ≤ facts) × (facts ≤ 64) ⌝ }
     ensures { λ r. ⌜ Greatest facts r ⌝ }
 {
-    0xffff_ffff_ffff_ffff >> (64 - facts)
+    if 64 <= facts {
+        return 0xffff_ffff_ffff_ffff;
+    }
+    0x7fff_ffff_ffff_ffff >> (63 - facts)
 }
 
 // Whether a set uses bits below `facts` alone.
 pub fn within(facts: u8, set: u64) -> bool
     ensures { λ r. ⌜ r ≡ within facts set ⌝ }
 {
-    if facts == 0 {
-        return set == 0;
-    }
-    if 64 <= facts {
-        return true;
-    }
     set <= most(facts)
 }
 
@@ -48,22 +44,36 @@ pub fn within(facts: u8, set: u64) -> bool
 pub(crate) fn consistent_to(most: u64, literals: Literals) -> bool
     ensures { λ r. ⌜ ((facts : ℕ) → Greatest facts most → r ≡ consistent facts literals) ⌝ }
 {
-    ((literals.positive | literals.negative) <= most) & (literals.positive & literals.negative == 0)
+    if literals.positive & literals.negative != 0 {
+        return false;
+    }
+    (literals.positive | literals.negative) <= most
 }
 
-// Of `count` pairs from `at` on, how many stand before the first that fails question 6.
-pub(crate) fn pairs_before_fault(bytes: &[u8], at: usize, count: usize, facts: u8) -> usize
-    requires { ⌜ (at + 16 * count ≤ length (now bytes)) × (1 ≤ facts) × (facts ≤ 64) ⌝ }
-    ensures { λ r. ⌜ r ≡ pairsBeforeFault facts (now (bytes .entry)) at count ⌝ }
+// The pass over an action's pairs, given the greatest set.
+fn pairs_to(most: u64, body: &[u8]) -> usize
+    ensures { λ r. ⌜ ((facts : ℕ) → Greatest facts most → r ≡ pairsBeforeFault facts (now (body .entry))) ⌝ }
 {
-    let most = most(facts);
-    let mut k = 0;
-    while k < count {
-        if consistent_to(most, literals_at(bytes, at + 16 * k)) {
-            k += 1;
+    let end = body.len() / 16 * 16;
+    let mut at = 0;
+    while at < end {
+        if consistent_to(most, literals_at(body, at)) {
+            at += 16;
         } else {
-            return k;
+            return at / 16;
         }
     }
-    k
+    at / 16
+}
+
+// Of the pairs in an action's body, how many stand before the first that fails question 6: all of them exactly if none does. Fewer than 16 bytes
+// at its end are no pair.
+pub fn pairs_before_fault(facts: u8, body: &[u8]) -> usize
+    ensures { λ r. ⌜ r ≡ pairsBeforeFault facts (now (body .entry)) ⌝ }
+{
+    // With 64 facts or more no set is too great: in a loop of its own the compiler leaves that test out.
+    if 64 <= facts {
+        return pairs_to(0xffff_ffff_ffff_ffff, body);
+    }
+    pairs_to(most(facts), body)
 }

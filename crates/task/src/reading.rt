@@ -98,7 +98,7 @@ fn ask_action(
     size: usize,
     offsets: &mut [usize; 64],
 ) -> Answer
-    requires { ⌜ (body + size ≤ length (now task)) × (inRange (p .index .bounds) ≡ true) ⌝ }
+    requires { ⌜ body + size ≤ length (now task) ⌝ }
     ensures { λ r. ⌜ ((next : ℕ) (q : List ℕ) →
         turned (now (task .entry)) p 2 body next r (now (offsets .exit)) q
         ≡ actionTurn (now (task .entry)) (state p (now (offsets .entry)) q) body size next) ⌝ }
@@ -106,8 +106,8 @@ fn ask_action(
     if 64 <= p.index.actions {
         return Answer::No(COUNT);
     }
-    let pairs = size / 16;
-    if pairs_before_fault(task, body, pairs, p.index.bounds.facts) != pairs {
+    let end = body + size;
+    if pairs_before_fault(p.index.bounds.facts, &task[body..end]) != size / 16 {
         return Answer::No(SETS);
     }
     offsets[p.index.actions as usize] = p.at;
@@ -137,7 +137,7 @@ fn ask_preset(task: &[u8], p: Progress, body: usize, presets: &mut [u8; 768]) ->
 
 // A case: questions 4 and 6.
 fn ask_case(task: &[u8], p: Progress, body: usize) -> Answer
-    requires { ⌜ (body + 24 ≤ length (now task)) × (inRange (p .index .bounds) ≡ true) ⌝ }
+    requires { ⌜ body + 24 ≤ length (now task) ⌝ }
     ensures { λ r. ⌜ ((next : ℕ) (o q : List ℕ) →
         turned (now (task .entry)) p 4 body next r o q ≡ caseTurn (now (task .entry)) (state p o q) body next) ⌝ }
 {

@@ -27,9 +27,13 @@ actionPairs a = a .precondition ∷ flatMap effectPairs (a .effects)
 unfoldable pub boundsRecord : Bounds → List ℕ
 boundsRecord b = recordBytes 1 (b .facts ∷ b .procedures ∷ b .last ∷ b .stack ∷ u16Bytes (b .steps))
 
--- kind 2, length 16 + 32 * e: the action's pairs, 16 bytes each
+-- the body of an action's record, 16 bytes a pair
+abbrev pub actionBody : Action → List ℕ
+actionBody a = flatMap pairBytes (actionPairs a)
+
+-- kind 2, length 16 + 32 * e: the action's pairs
 unfoldable pub actionRecord : Action → List ℕ
-actionRecord a = recordBytes 2 (flatMap pairBytes (actionPairs a))
+actionRecord a = recordBytes 2 (actionBody a)
 
 -- kind 3, length 5: procedure, line, instruction
 unfoldable pub presetRecord : Preset → List ℕ

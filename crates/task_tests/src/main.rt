@@ -2,13 +2,15 @@
 //
 // The input is a run of records. Kind 0: text, written as it is. Kind 1: a task; its number and value are written. Kind 2: a task that
 // passes; what its readers say is written. Kind 3: a program's length (2 bytes), the program and a task that passes; the
-// program's number and value are written.
+// program's number and value are written. Kind 4: a number of facts (1 byte) and an action's body; how many of its pairs stand before the
+// first that fails question 6 is written.
 use libc::STDIN_FILENO;
 use libc::STDOUT_FILENO;
 use records::numbers::byte_at;
 use records::numbers::two_at;
 use task::bounds::Bounds;
 use task::facts::Literals;
+use task::facts::pairs_before_fault;
 use task::index::action_at;
 use task::index::case_at;
 use task::index::effect_at;
@@ -153,6 +155,14 @@ fn write_program(bytes: &[u8]) {
     write_verdict(check_program(layout.index, &presets, program));
 }
 
+fn write_pairs(bytes: &[u8]) {
+    if bytes.len() < 1 {
+        return;
+    }
+    write_number(b"", pairs_before_fault(bytes[0], &bytes[1..]) as u64);
+    write(b"\n");
+}
+
 // Reads a record's body and answers it.
 fn answer_body(kind: u16, body: &mut [u8]) {
     io::read_full(STDIN_FILENO, body);
@@ -164,7 +174,8 @@ fn answer_body(kind: u16, body: &mut [u8]) {
             write_verdict(verdict);
         }
         2 => write_task(body),
-        _ => write_program(body),
+        3 => write_program(body),
+        _ => write_pairs(body),
     }
 }
 

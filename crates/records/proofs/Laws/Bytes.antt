@@ -1,5 +1,5 @@
 -- The bytes of a number and of a record, and what is read where they stand in a file, both ways. A number is read from its bytes because it fits in so
--- many of them, and the bytes are those of the number that is read because each is below 256: one law for every width.
+-- many of them, and the bytes are those of the number that is read because each is below 256: one law for every width. And what is read in a part of a file.
 -- Assumes nothing.
 use Prim.Native.Nat.{ℕ, zero, suc, _+_, _*_, _/_, _%_, _^_, _≤_, _<_}
 use mathlib.Core.Path.{_≡_, refl, sym, ap, _∙_}
@@ -8,7 +8,7 @@ use native.Mathlib.Nat.{add-zero, add-assoc}
 use native.Mathlib.Numerals.{add-one}
 use native.Mathlib.Omega.{arith}
 use lib.ListN.{length, take, drop, length-append, length-drop, take-append-drop}
-use lib.Seq.{drop-append-seam, drop-cons, drop-drop, drop-length, getD-drop, length-take-le}
+use lib.Seq.{drop-append-seam, drop-cons, drop-drop, drop-length, getD-drop, getD-take, length-take-le}
 use Rattle.records.specs.Numbers.{byteAt, eightAt, u16At, u64At, numberBytes, u16Bytes, u64Bytes}
 use Rattle.records.specs.Record.{recordAt, recordBytes, closing}
 use Rattle.records.specs.declared.record.Found.the-variants.{Record}
@@ -143,3 +143,25 @@ module _ (bytes : List ℕ) where
   pub closing-written : (at start next : ℕ) → recordAt bytes at ≡ Record 5 start 0 next → Small at 4 → next ≡ length bytes → drop at bytes ≡ closing
   unfolding closing
   closing-written at start next found small end = record-written at 5 start 0 next found small ∙ rw (end, drop-length bytes) (append-nil _)
+
+-- what is read in a part of a file is what stands there in the file
+module _ (bytes : List ℕ) (start size : ℕ) (h : start + size ≤ length bytes) where
+  abbrev part : List ℕ
+  part = take size (drop start bytes)
+
+  pub part-length : length part ≡ size
+  part-length = length-take-le size (drop start bytes) (omega (arith, length-drop start bytes))
+
+  value-part : (width at : ℕ) → at + width ≤ size → valueAt part width at ≡ valueAt bytes width (start + at)
+  value-part zero at l = refl
+  value-part (suc width) at l =
+      let within : at < size = omega arith in
+      let first : byteAt part at ≡ byteAt bytes (start + at) = rw (getD-take, getD-drop) in
+      let rest = value-part width (at + 1) (omega arith) in
+      let e : start + (at + 1) ≡ start + at + 1 = omega arith in
+      omega (arith, first, rw e at rest)
+
+  pub u64-part : (at : ℕ) → at + 8 ≤ size → u64At part at ≡ u64At bytes (start + at)
+  u64-part at l =
+      let same = sym (eight-value part at) ∙ value-part 8 at l ∙ eight-value bytes (start + at) in
+      sym (u64-there part at _ refl (omega (arith, part-length))) ∙ u64-there bytes (start + at) _ same (omega arith)

@@ -1,9 +1,9 @@
 -- The search for the first no, place by place: the test at a place says whether the search goes on or ends there. `Searching` is the
--- invariant of every loop that makes such a search. And a search finds none exactly if each place passed.
+-- invariant of every loop that makes such a search. A search finds none exactly if each place passed, and two tests that agree find the same.
 -- Assumes nothing.
 use Prim.Native.Nat.{ℕ, zero, suc, _+_, _-_, _≤_, _<_}
-use mathlib.Core.Path.{_≡_, refl, sym, _∙_}
-use mathlib.Core.Bool.{Bool, true, false}
+use mathlib.Core.Path.{_≡_, refl, sym, ap, _∙_}
+use mathlib.Core.Bool.{Bool, true, false, cond}
 use native.Mathlib.Numerals.{add-one}
 use native.Mathlib.Omega.{arith}
 use Rattle.records.proofs.Laws.Tests.{cond-either}
@@ -49,6 +49,19 @@ found-most test count = omega (arith, from 0 count)
     from k zero = omega arith
     from k (suc left) =
         cond-either (λ (n : ℕ). n ≤ k + suc left) (test k) (firstNoFrom test (suc k) left) k (λ e. omega (arith, from (suc k) left)) (λ e. omega arith)
+
+-- two tests that agree at each place find the same
+module _ (test other : ℕ → Bool) where
+  same-from : (k left : ℕ) → ((j : ℕ) → k ≤ j → j < k + left → test j ≡ other j) → firstNoFrom test k left ≡ firstNoFrom other k left
+  unfolding firstNoFrom
+  same-from k zero h = refl
+  same-from k (suc left) h =
+      rw (h k (omega arith) (omega arith))
+      (ap (λ (n : ℕ). cond (other k) n k) (same-from (suc k) left (λ j l m. h j (omega arith) (omega arith))))
+
+  pub found-same : (count : ℕ) → ((k : ℕ) → k < count → test k ≡ other k) → firstNo test count ≡ firstNo other count
+  unfolding firstNo
+  found-same count h = same-from 0 count (λ j l m. h j (omega arith))
 
 -- a search at whose places the test says yes
 module _ (test : ℕ → Bool) (count : ℕ) (all : (k : ℕ) → k < count → test k ≡ true) where

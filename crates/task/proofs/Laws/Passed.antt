@@ -22,7 +22,7 @@ use Rattle.task.proofs.Laws.Facts.{pairs-consistent}
 use Rattle.task.proofs.Laws.Instruction.{put-length}
 use Rattle.task.proofs.Laws.Kept.{least, greatest, Follows, There, Kinds, IfAccepted, refused-vacuous, ask-if-accepted, reading-keeps, turn-keeps, follows}
 use Rattle.task.specs.Bounds.{inRange}
-use Rattle.task.specs.Facts.{literalsAt, within, consistent, pairsBeforeFault}
+use Rattle.task.specs.Facts.{literalsAt, within, consistent, pairsBeforeFaultAt}
 use Rattle.task.specs.Index.{actionAt, effectAt, caseAt}
 use Rattle.task.specs.Instruction.{encode}
 use Rattle.task.specs.Program.{lineOffset}
@@ -63,7 +63,7 @@ pub record Passed (bytes : List ℕ) (t : Layout) : Type 0 where
 
 -- an action of 16 + 32 * e bytes has 1 + 2 * e pairs
 action-sound : (facts : ℕ) (bytes : List ℕ) (at size : ℕ) → size ≡ u16At bytes at → size % 32 ≡ 16
-    → pairsBeforeFault facts bytes (at + 4) (size / 16) ≡ size / 16 → ActionSound facts bytes at
+    → pairsBeforeFaultAt facts bytes (at + 4) (size / 16) ≡ size / 16 → ActionSound facts bytes at
 unfolding actionAt effectAt literalsAt
 action-sound facts bytes at size e m h =
     let pair = pairs-consistent facts bytes (at + 4) (size / 16) h in

@@ -17,7 +17,7 @@ use Rattle.records.proofs.Laws.Loop.{ask-yes, ask-no}
 use Rattle.records.proofs.Laws.Numbers.{u64-there}
 use Rattle.records.proofs.Laws.Record.{record-ends}
 use Rattle.task.specs.Bounds.{boundsAt, inRange}
-use Rattle.task.specs.Facts.{literalsAt, within, Greatest, consistent, pairsBeforeFault}
+use Rattle.task.specs.Facts.{literalsAt, within, Greatest, consistent, pairsBeforeFaultAt}
 use Rattle.task.specs.Instruction.{decodeFor, encode, tripleAt, withTriple}
 use Rattle.task.specs.Program.{lineOffset, isInstruction}
 use Rattle.task.proofs.Laws.Instruction.{not-instruction, instruction-is, decoded-for, decoded-there}
@@ -109,7 +109,7 @@ module _ (bytes : List ℕ) (p : Progress) (body next : ℕ) (o q : List ℕ) wh
     unfolding turned actionTurn
     action-full h = ask-no _ _ _ (le-ltb (p .index .actions) 64 h)
 
-    module _ (pairs : ℕ) (h : p .index .actions < 64) (g : pairs ≡ pairsBeforeFault (p .index .bounds .facts) bytes body (size / 16)) where
+    module _ (pairs : ℕ) (h : p .index .actions < 64) (g : pairs ≡ pairsBeforeFaultAt (p .index .bounds .facts) bytes body (size / 16)) where
       few-actions : ltb (p .index .actions) 64 ≡ true
       few-actions = lt-ltb (p .index .actions) 64 h
 

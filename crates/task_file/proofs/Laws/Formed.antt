@@ -4,9 +4,11 @@ use Prim.Native.Nat.{ℕ, _^_, _≤_, _<_}
 use mathlib.Core.Path.{_≡_}
 use mathlib.Core.Bool.{true, _&&_}
 use mathlib.Core.List.{map, flatMap}
+use native.Mathlib.Nat.{lt-of-lt-of-le}
 use native.Mathlib.Omega.{arith}
 use lib.ListN.{length}
 use lib.Bits.{bitAnd}
+use lib.Pow.{pow-mono}
 use borrow.Author.Tests.{ltb-true, lt-ltb, eqb-true, eq-eqb}
 use Rattle.records.proofs.Laws.Tests.{both-true}
 use Rattle.task.specs.Bounds.{inRange}
@@ -19,6 +21,7 @@ use Rattle.task.specs.declared.index.Case.{Case}
 use Rattle.task.specs.declared.instruction.Instruction.the-variants.{Empty}
 use Rattle.task.proofs.Laws.Instruction.{allowed-line}
 use Rattle.task_file.specs.Bytes.{actionPairs}
+use Rattle.task_file.specs.Pairs.{PairFits}
 use Rattle.task_file.specs.WellFormed.{Every, none, also, Once, pairs, bothSets, sets, WellFormed}
 use Rattle.task_file.proofs.Laws.Every.{every-head, every-tail, every-join, every-first, every-last, every-gives, every-both, every-mapped, mapped-every, every-flat, flat-every}
 
@@ -35,7 +38,7 @@ module _ (facts : ℕ) where
   unfolding within
   is-within set h = lt-ltb set (2 ^ facts) h
 
-  pub consistent-is : (l : Literals) → Consistent l → (l .positive < 2 ^ facts) × (l .negative < 2 ^ facts) × (bitAnd (l .positive) (l .negative) ≡ 0)
+  consistent-is : (l : Literals) → Consistent l → (l .positive < 2 ^ facts) × (l .negative < 2 ^ facts) × (bitAnd (l .positive) (l .negative) ≡ 0)
   unfolding consistent
   consistent-is l h =
       let k = both-true (within facts (l .positive) && within facts (l .negative)) _ h in
@@ -45,6 +48,14 @@ module _ (facts : ℕ) where
   is-consistent : (l : Literals) → l .positive < 2 ^ facts → l .negative < 2 ^ facts → bitAnd (l .positive) (l .negative) ≡ 0 → Consistent l
   unfolding consistent
   is-consistent l p n e = simp (is-within _ p, is-within _ n, eq-eqb (bitAnd (l .positive) (l .negative)) 0 e)
+
+  -- below at most 64 facts a set fits in 8 bytes, and so do both of a pair
+  module _ (few : facts ≤ 64) where
+    pub set-fits : (set : ℕ) → set < 2 ^ facts → set < 2 ^ 64
+    set-fits set h = lt-of-lt-of-le h (pow-mono few)
+
+    pub pair-fits : (l : Literals) → Consistent l → PairFits l
+    pair-fits l h = let k = consistent-is l h in (omega (arith, set-fits (l .positive) (k .0)), omega (arith, set-fits (l .negative) (k .1)))
 
   -- an action and a case that pass
   abbrev pub ActionGood : Action → Type 0

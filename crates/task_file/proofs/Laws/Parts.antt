@@ -1,11 +1,11 @@
 -- The bytes of each part of a task, and what is read where they stand, both ways. From the bytes of a part the part is read, because its numbers fit; and the
--- bytes of a record that is read are those of the part that is read, because each is below 256.
+-- bytes of a record that is read are those of the part that is read, because each is below 256. And the pass over an action's body.
 -- Assumes nothing.
 use Prim.Native.Nat.{ℕ, zero, suc, _+_, _*_, _/_, _%_, _^_, _≤_, _<_}
 use mathlib.Core.Path.{_≡_, refl, sym, ap, _∙_}
 use mathlib.Core.Bool.{true}
 use mathlib.Core.Logic.{_↔_}
-use mathlib.Core.List.{List, [], _∷_, _++_, flatMap, append-assoc}
+use mathlib.Core.List.{List, [], _∷_, _++_, flatMap, append-nil, append-assoc}
 use native.Mathlib.Nat.{add-zero}
 use native.Mathlib.Omega.{arith}
 use lib.ListN.{length, take, drop, length-append, length-drop}
@@ -16,7 +16,7 @@ use Rattle.records.specs.declared.record.Found.the-variants.{Record}
 use Rattle.records.proofs.Laws.Bytes.{length-number, byte-behind, behind, u16-read, u64-read, u16-written, u64-written, record-read, body-read, rest-read, record-written}
 use Rattle.records.proofs.Laws.Record.{record-ends}
 use Rattle.task.specs.Bounds.{boundsAt}
-use Rattle.task.specs.Facts.{literalsAt, consistent, pairConsistent, pairsBeforeFault}
+use Rattle.task.specs.Facts.{literalsAt, consistent, pairConsistent, pairsBeforeFaultAt, pairsBeforeFault}
 use Rattle.task.specs.Index.{rowFrom, actionAt, effectAt, effectsOf}
 use Rattle.task.specs.Instruction.{encode, encodeFor, tripleAt}
 use Rattle.task.specs.Task.{Action, Preset}
@@ -26,11 +26,17 @@ use Rattle.task.specs.declared.facts.Literals.{Literals}
 use Rattle.task.specs.declared.index.Case.{Case}
 use Rattle.task.specs.declared.index.Effect.{Effect}
 use Rattle.task.specs.declared.instruction.Instruction.{Instruction}
-use Rattle.task.proofs.Laws.First.{all-found, found-all}
 use Rattle.task.proofs.Laws.Triple.{triple-behind, five-bytes}
-use Rattle.task_file.specs.Bytes.{pairBytes, effectPairs, actionPairs, boundsRecord, actionRecord, presetRecord, caseRecord}
+use Rattle.task_file.specs.Bytes.{pairBytes, effectPairs, actionPairs, actionBody, boundsRecord, actionRecord, presetRecord, caseRecord}
+use Rattle.task_file.specs.Pairs.{beforeNo, PairFits, SetsFit}
 use Rattle.task_file.specs.WellFormed.{Every}
-use Rattle.task_file.proofs.Laws.Rows.{flat-length, row-length, row-every, every-row, row-cut, row-read}
+use Rattle.task_file.proofs.Laws.Rows.{flat-length, row-length, row-found, before-full, row-cut, row-read}
+
+-- the pairs that stand in a row, counted before the first that fails
+pairs-counted : (facts : ℕ) (bytes : List ℕ) (start count : ℕ)
+    → pairsBeforeFaultAt facts bytes start count ≡ beforeNo (consistent facts) (rowFrom (λ k. literalsAt bytes (start + 16 * k)) 0 count)
+unfolding pairsBeforeFaultAt pairConsistent
+pairs-counted facts bytes start count = row-found (consistent facts) (λ k. literalsAt bytes (start + 16 * k)) count
 
 -- the pairs of the action at an offset stand in a row, and question 6 is asked of each
 module _ (bytes : List ℕ) (at : ℕ) where
@@ -57,30 +63,20 @@ module _ (bytes : List ℕ) (at : ℕ) where
 
   -- the count of the pairs before the first that fails is full exactly if every pair passes
   pub pairs-asked : (facts count : ℕ) → count ≡ 1 + 2 * (actionAt bytes at .effects)
-      → (pairsBeforeFault facts bytes (at + 4) count ≡ count) ↔ Every (λ (l : Literals). consistent facts l ≡ true) (actionPairs (actionOf bytes at))
-  unfolding pairsBeforeFault pairConsistent
+      → (pairsBeforeFaultAt facts bytes (at + 4) count ≡ count) ↔ Every (λ (l : Literals). consistent facts l ≡ true) (actionPairs (actionOf bytes at))
   pairs-asked facts count e =
-      rw (action-pairs, ← e) (
-        λ h. row-every pairAt 0 count (λ j l m. found-all (pairConsistent facts bytes (at + 4)) count h j (omega arith)),
-        λ h. all-found (pairConsistent facts bytes (at + 4)) count (λ j m. every-row pairAt 0 count h j (omega arith) (omega arith)),
-      )
+      let full = before-full (consistent facts) (rowFrom pairAt 0 count) in
+      rw (action-pairs, ← e, pairs-counted facts bytes (at + 4) count) (rw (row-length pairAt 0 count) at full)
 
   pub effects-count : length (actionOf bytes at .effects) ≡ actionAt bytes at .effects
   unfolding actionOf effectsOf
   effects-count = row-length (effectAt bytes at) 0 (actionAt bytes at .effects)
-
--- a pair whose sets fit in 8 bytes each
-abbrev pub PairFits : Literals → Type 0
-PairFits l = (l .positive < 2 ^ 64) × (l .negative < 2 ^ 64)
 
 pair-length : (l : Literals) → length (pairBytes l) ≡ 16
 unfolding pairBytes
 pair-length l = length-append (u64Bytes (l .positive)) (u64Bytes (l .negative)) ∙ omega (arith, length-number 8 (l .positive), length-number 8 (l .negative))
 
 -- an action has 1 + 2 * e pairs, and its record a body of 16 + 32 * e bytes
-abbrev actionBody : Action → List ℕ
-actionBody a = flatMap pairBytes (actionPairs a)
-
 pairs-count : (a : Action) → length (actionPairs a) ≡ 1 + 2 * length (a .effects)
 unfolding actionPairs effectPairs
 pairs-count a = omega (arith, flat-length effectPairs 2 (λ e. refl) (a .effects))
@@ -132,9 +128,21 @@ module _ (bytes : List ℕ) where
     pair-read fits =
         let here = h ∙ append-assoc (u64Bytes (l .positive)) (u64Bytes (l .negative)) rest in
         let there = rw (length-number 8 (l .positive)) at (behind bytes at (u64Bytes (l .positive)) _ here) in
-        let p = u64-read bytes at (l .positive) _ (fits .0) here in
-        let n = u64-read bytes (at + 8) (l .negative) rest (fits .1) there in
+        let p = u64-read bytes at (l .positive) _ (omega (arith, fits .0)) here in
+        let n = u64-read bytes (at + 8) (l .negative) rest (omega (arith, fits .1)) there in
         λ i. record { positive = p i; negative = n i }
+
+  -- pairs whose bytes stand one behind the other from an offset on
+  pairs-read : (start : ℕ) (l : List Literals) (rest : List ℕ) → Every PairFits l → drop start bytes ≡ flatMap pairBytes l ++ rest
+      → rowFrom (λ k. literalsAt bytes (start + 16 * k)) 0 (length l) ≡ l
+  pairs-read start l rest fits h =
+      let from : start + 16 * 0 ≡ start = omega arith in
+      row-read bytes pairBytes PairFits (λ k. literalsAt bytes (start + 16 * k)) (λ k. start + 16 * k) (λ k l. omega (arith, pair-length l))
+      (λ k l more good here. pair-read (start + 16 * k) l more here good) l 0 rest fits (rw from h)
+
+  -- the body that is cut out of a file, given the bytes that stand there
+  cut-out : (at size : ℕ) (body rest : List ℕ) → length body ≡ size → drop at bytes ≡ body ++ rest → take size (drop at bytes) ≡ body
+  cut-out at size body rest n h = ap (take size) h ∙ take-at body rest size n
 
   -- an action whose record stands at an offset
   module _ (at : ℕ) (a : Action) (rest : List ℕ) (few : length (a .effects) ≤ 8) (h : drop at bytes ≡ actionRecord a ++ rest) where
@@ -149,18 +157,18 @@ module _ (bytes : List ℕ) where
     unfolding actionRecord
     action-behind = rw (← (body-length a)) (rest-read bytes at 2 (actionBody a) rest h)
 
+    pub action-body : take (16 + 32 * length (a .effects)) (drop (at + 4) bytes) ≡ actionBody a
+    unfolding actionRecord
+    action-body = cut-out (at + 4) _ (actionBody a) rest (body-length a) (body-read bytes at 2 (actionBody a) rest h)
+
     action-size : u16At bytes at ≡ 16 + 32 * length (a .effects)
     action-size = sym (record-ends bytes at 2 _ _ _ action-found .3)
 
-    pub action-read : Every PairFits (actionPairs a) → actionOf bytes at ≡ a
+    pub action-read : SetsFit a → actionOf bytes at ≡ a
     unfolding actionRecord actionAt
     action-read fits =
         let count : 1 + 2 * (actionAt bytes at .effects) ≡ length (actionPairs a) = omega (arith, action-size, pairs-count a) in
-        let from : at + 4 + 16 * 0 ≡ at + 4 = omega arith in
-        let row =
-        row-read bytes pairBytes PairFits (pairAt bytes at) (λ k. at + 4 + 16 * k) (λ k l. omega (arith, pair-length l))
-        (λ k l more good here. pair-read (at + 4 + 16 * k) l more here good) (actionPairs a) 0 rest fits
-        (rw from (body-read bytes at 2 (actionBody a) rest h)) in
+        let row = pairs-read (at + 4) (actionPairs a) rest fits (body-read bytes at 2 (actionBody a) rest h) in
         action-same (actionOf bytes at) a (action-pairs bytes at ∙ ap (rowFrom (pairAt bytes at) 0) count ∙ row)
 
   -- a case whose record stands at an offset
@@ -259,10 +267,6 @@ module _ (bytes : List ℕ) where
           append-assoc (pairBytes (pairAt bytes at k)) (flatMap pairBytes (rowFrom (pairAt bytes at) (suc k) left)) (drop (at + 4 + 16 * (suc k + left)) bytes),
         ))
 
-    -- the body that is cut out of a file, given the bytes that stand there
-    cut-out : (at size : ℕ) (body rest : List ℕ) → length body ≡ size → drop at bytes ≡ body ++ rest → take size (drop at bytes) ≡ body
-    cut-out at size body rest n h = ap (take size) h ∙ take-at body rest size n
-
     -- a record that is read, given the bytes of its body
     part-written : (at kind size next : ℕ) (body rest : List ℕ) → recordAt bytes at ≡ Record kind (at + 4) size next → length body ≡ size
         → drop (at + 4) bytes ≡ body ++ rest → drop at bytes ≡ recordBytes kind body ++ drop next bytes
@@ -317,3 +321,17 @@ module _ (bytes : List ℕ) where
         let ends = record-ends bytes 0 1 _ 6 _ found in
         let steps = u16-written bytes 8 (omega arith) (λ k l. are (8 + k)) in
         part-written 0 1 6 10 _ (drop 10 bytes) found refl (cc (row-cut bytes 4 4 (omega arith), steps))
+
+-- the pass over an action's body
+module _ (facts : ℕ) (a : Action) (fits : SetsFit a) where
+  pub body-counted : pairsBeforeFault facts (actionBody a) ≡ beforeNo (consistent facts) (actionPairs a)
+  unfolding pairsBeforeFault
+  body-counted =
+      let n : length (actionBody a) / 16 ≡ length (actionPairs a) = omega (arith, body-length a, pairs-count a) in
+      let row = pairs-read (actionBody a) 0 (actionPairs a) [] fits (sym (append-nil (actionBody a))) in
+      rw n (pairs-counted facts (actionBody a) 0 (length (actionPairs a)) ∙ ap (beforeNo (consistent facts)) row)
+
+  pub body-full : (pairsBeforeFault facts (actionBody a) ≡ 1 + 2 * length (a .effects)) ↔ Every (λ (l : Literals). consistent facts l ≡ true) (actionPairs a)
+  body-full =
+      let all = before-full (consistent facts) (actionPairs a) in
+      (λ h. all .0 (omega (arith, body-counted, pairs-count a)), λ h. omega (arith, body-counted, pairs-count a, all .1 h))

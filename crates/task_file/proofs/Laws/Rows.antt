@@ -1,16 +1,19 @@
--- Lists laid end to end, and rows: the elements with the numbers k, k + 1, ... A row that is read from records that stand one behind the other has the elements
--- whose records they are.
+-- Lists laid end to end, and rows: the elements with the numbers k, k + 1, ... How many stand before the first to which a test says no. A row that is read from
+-- records that stand one behind the other has the elements whose records they are.
 -- Assumes nothing.
 use Prim.Native.Nat.{ℕ, zero, suc, _+_, _*_, _≤_, _<_}
 use mathlib.Core.Path.{_≡_, refl, sym, ap, _∙_}
+use mathlib.Core.Bool.{Bool, true, false, cond}
 use mathlib.Core.List.{List, [], _∷_, _++_, map, flatMap, append-nil, append-assoc}
-use native.Mathlib.Decide.{ℕ-discrete}
+use mathlib.Core.Logic.{_↔_}
 use native.Mathlib.Nat.{add-zero, mul-suc}
 use native.Mathlib.Omega.{arith}
 use lib.ListN.{length, drop, getD, length-append}
 use lib.Seq.{drop-cons}
 use Rattle.records.proofs.Laws.Bytes.{behind}
+use Rattle.task.specs.First.{firstNoFrom, firstNo}
 use Rattle.task.specs.Index.{rowFrom}
+use Rattle.task_file.specs.Pairs.{beforeNo}
 use Rattle.task_file.specs.WellFormed.{Every, none, also}
 use Rattle.task_file.proofs.Laws.Every.{every-head, every-tail}
 
@@ -49,18 +52,38 @@ row-grows read l x e f =
     let n : 0 + length l ≡ length l = omega arith in
     ap (rowFrom read 0) (length-append l (x ∷ [])) ∙ row-more read 0 (length l) ∙ cc
 
--- the elements of a row have a property exactly if each number's has it
-module _ {A : Type 0} {P : A → Type 0} (read : ℕ → A) where
-  pub row-every : (k left : ℕ) → ((j : ℕ) → k ≤ j → j < k + left → P (read j)) → Every P (rowFrom read k left)
-  unfolding rowFrom
-  row-every k zero h = none
-  row-every k (suc left) h = also (h k (omega arith) (omega arith)) (row-every (suc k) left (λ j l m. h j (omega arith) (omega arith)))
+-- of a row, and of a list, how many elements stand before the first to which a test says no; all exactly if it says yes to each
+module _ {A : Type 0} (test : A → Bool) where
+  row-before : (read : ℕ → A) (k left : ℕ) → firstNoFrom (λ j. test (read j)) k left ≡ k + beforeNo test (rowFrom read k left)
+  unfolding firstNoFrom beforeNo rowFrom
+  row-before read k zero = omega arith
+  row-before read k (suc left) = one (test (read k)) _ _ (row-before read (suc k) left)
+    where
+      one : (b : Bool) (x y : ℕ) → x ≡ suc k + y → cond b x k ≡ k + cond b (suc y) 0
+      one true x y h = omega arith
+      one false x y h = omega arith
 
-  pub every-row : (k left : ℕ) → Every P (rowFrom read k left) → (j : ℕ) → k ≤ j → j < k + left → P (read j)
-  unfolding rowFrom
-  every-row k zero h j l m = absurd (omega arith)
-  every-row k (suc left) (also h hs) j l m =
-      elim (ℕ-discrete j k) [ yes e ↦ rw e h | no n ↦ every-row (suc k) left hs j (omega arith) (omega arith) ]
+  pub row-found : (read : ℕ → A) (count : ℕ) → firstNo (λ j. test (read j)) count ≡ beforeNo test (rowFrom read 0 count)
+  unfolding firstNo
+  row-found read count = omega (arith, row-before read 0 count)
+
+  before-all : (l : List A) → beforeNo test l ≡ length l → Every (λ x. test x ≡ true) l
+  unfolding beforeNo
+  before-all [] h = none
+  before-all (x ∷ l) h = one (before-all l) (test x) refl h
+    where
+      one : (beforeNo test l ≡ length l → Every (λ x. test x ≡ true) l) → (b : Bool) → test x ≡ b → cond b (suc (beforeNo test l)) 0 ≡ suc (length l)
+          → Every (λ x. test x ≡ true) (x ∷ l)
+      one rest true e h = also e (rest (omega arith))
+      one rest false e h = absurd (omega arith)
+
+  all-before : {l : List A} → Every (λ x. test x ≡ true) l → beforeNo test l ≡ length l
+  unfolding beforeNo
+  all-before none = refl
+  all-before (also e h) = simp e (ap suc (all-before h))
+
+  pub before-full : (l : List A) → (beforeNo test l ≡ length l) ↔ Every (λ x. test x ≡ true) l
+  before-full l = (before-all l, all-before)
 
 -- a list from element k on: the next `left` elements, and what stands behind them
 pub row-cut : (l : List ℕ) (left k : ℕ) → k + left ≤ length l → drop k l ≡ rowFrom (λ i. getD l i 0) k left ++ drop (k + left) l

@@ -1,18 +1,17 @@
 -- The bytes of a well-formed task are read: at each of its records the parts before it are read, every question says yes, and the reading goes on with this
 -- part read too; and the closing record ends it.
 -- Assumes nothing.
-use Prim.Native.Nat.{ℕ, _+_, _*_, _/_, _%_, _^_, _≤_, _<_}
+use Prim.Native.Nat.{ℕ, _+_, _*_, _/_, _%_, _≤_, _<_}
 use mathlib.Core.Path.{_≡_, refl, sym, ap, _∙_}
 use mathlib.Core.Bool.{true, _&&_}
 use mathlib.Core.List.{List, [], _∷_, _++_, flatMap, append-nil, append-assoc}
-use native.Mathlib.Nat.{add-assoc, lt-of-lt-of-le}
+use native.Mathlib.Nat.{add-assoc}
 use native.Mathlib.Omega.{arith}
 use lib.Dec.{ltb, eqb}
 use lib.ListN.{length, drop, length-append}
-use lib.Pow.{pow-mono}
 use lib.Seq.{append-snoc}
 use borrow.Author.Tests.{le-leb, lt-ltb, eq-eqb}
-use Rattle.records.specs.Loop.{go}
+use Rattle.records.specs.Loop.{go, ask}
 use Rattle.records.specs.Record.{closing}
 use Rattle.records.proofs.Laws.Bytes.{closing-read}
 use Rattle.records.proofs.Laws.Loop.{ask-yes}
@@ -24,34 +23,61 @@ use Rattle.task.specs.Index.{actionAt}
 use Rattle.task.specs.Instruction.{orEmpty, spelled, decodeFor, tripleAt}
 use Rattle.task.specs.Program.{lineOffset}
 use Rattle.task.specs.Outcome.{withRecord}
-use Rattle.task.specs.Reading.{State, begin, noLayout, accepted, byKind, lengthFits, headerTurn, actionTurn, onPreset, presetTurn, caseTurn, closeTurn, kindTurn, onRecord, turnOf, readTask}
+use Rattle.task.specs.Questions.{SETS}
+use Rattle.task.specs.Reading.{State, begin, noLayout, accepted, refused, byKind, mayStand, lengthFits, headerTurn, actionTurn, onPreset, presetTurn, caseTurn, closeTurn, kindTurn, onRecord, turnOf, readTask}
 use Rattle.task.specs.Task.{Action, Preset, Task}
 use Rattle.task.specs.declared.bounds.Bounds.{Bounds}
-use Rattle.task.specs.declared.facts.Literals.{Literals}
 use Rattle.task.specs.declared.index.Case.{Case}
 use Rattle.task.specs.declared.instruction.Decoded.the-variants.{Is}
 use Rattle.task.specs.declared.instruction.Line.{Line}
 use Rattle.task.specs.declared.instruction.Proc.{Proc}
 use Rattle.task.proofs.Laws.Bounds.{ranges, line-within}
+use Rattle.task.proofs.Laws.Facts.{pairs-part}
 use Rattle.task.proofs.Laws.Instruction.{for-decoded}
 use Rattle.task.proofs.Laws.Kept.{least, greatest, may-stand, There}
 use Rattle.task.proofs.Laws.Triple.{spelled-encode}
 use Rattle.task.proofs.Laws.Turns.{from, from-begin, from-next, from-stop}
-use Rattle.task_file.specs.Bytes.{boundsRecord, actionPairs, actionRecord, presetRecord, caseRecord, taskBytes}
+use Rattle.task_file.specs.Bytes.{boundsRecord, actionBody, actionRecord, presetRecord, caseRecord, taskBytes}
+use Rattle.task_file.specs.Pairs.{AtAction}
 use Rattle.task_file.specs.WellFormed.{Every, On}
-use Rattle.task_file.proofs.Laws.Formed.{Consistent, ActionGood, CaseGood, PresetGood, line-most, Formed, consistent-is, within-is}
+use Rattle.task_file.proofs.Laws.Formed.{ActionGood, CaseGood, PresetGood, line-most, Formed, within-is, set-fits, pair-fits}
 use Rattle.task_file.proofs.Laws.Every.{every-gives, every-at, every-first, every-both, once-at}
-use Rattle.task_file.proofs.Laws.Parts.{PairFits, pairs-asked, action-length, action-found, action-behind, action-read, preset-found, preset-behind, preset-read, case-found, case-behind, case-read, bounds-found, bounds-behind, bounds-read}
+use Rattle.task_file.proofs.Laws.Parts.{body-full, action-length, action-found, action-body, action-behind, action-read, preset-found, preset-behind, preset-read, case-found, case-behind, case-read, bounds-found, bounds-behind, bounds-read}
 use Rattle.task_file.proofs.Laws.Presets.{presetNumber, apart-free, number-on}
 use Rattle.task_file.proofs.Laws.SoFar.{SoFar, layoutOf, withAction, withPreset, withCase, stateBehind, actionState, presetState, caseState, bounds-so-far, action-so-far, preset-so-far, case-so-far}
 
 module _ (bytes : List ℕ) where
   -- a record of a kind that may stand here and has its length: what its kind asks
+  record-turn : (s : State) (kind size : ℕ) → There bytes s kind size → mayStand (s .progress .last) kind ≡ true → lengthFits kind size ≡ true
+      → kindTurn bytes s kind (s .progress .at + 4) size (s .progress .at + (4 + size)) ≡ turnOf bytes s
+  unfolding turnOf onRecord
+  record-turn s kind size r stands fits = rw r (ask-yes _ _ _ fits ∙ ask-yes _ _ _ stands)
+
   kind-turn : (s : State) (kind size : ℕ) → There bytes s kind size → least (s .progress .last) ≤ kind → kind ≤ greatest (s .progress .last)
       → lengthFits kind size ≡ true → kindTurn bytes s kind (s .progress .at + 4) size (s .progress .at + (4 + size)) ≡ turnOf bytes s
-  unfolding turnOf onRecord
-  kind-turn s kind size r l g fits =
-      rw r (ask-yes _ _ _ fits ∙ ask-yes _ _ _ (may-stand (s .progress .last) kind l g))
+  kind-turn s kind size r l g fits = record-turn s kind size r (may-stand (s .progress .last) kind l g) fits
+
+  -- the record of an action to which questions 2 to 4 say yes: question 6, by the pass over its body
+  pub action-turn : (s : State) (x : Action) (more : List ℕ) → AtAction bytes s x more
+      → ask (eqb (pairsBeforeFault (s .progress .index .bounds .facts) (actionBody x)) (1 + 2 * length (x .effects))) (refused SETS (s .progress .at))
+      (go (actionState bytes s (s .progress .at + (4 + (16 + 32 * length (x .effects))))))
+      ≡ turnOf bytes s
+  unfolding kindTurn byKind actionTurn lengthFits withRecord
+  action-turn s x more r =
+      let at = s .progress .at in
+      let size = 16 + 32 * length (x .effects) in
+      let few : length (x .effects) ≤ 8 = omega (arith, r .effects) in
+      let found = action-found bytes at x more few (r .there) in
+      let ends = record-ends bytes at 2 _ size _ found in
+      let body = action-body bytes at x more few (r .there) in
+      let part = pairs-part (s .progress .index .bounds .facts) bytes (at + 4) size (omega arith) in
+      let count = rw body at part in
+      let n : 1 + 2 * length (x .effects) ≡ size / 16 = omega arith in
+      let fits : lengthFits 2 size ≡ true = simp (le-leb size 272 (omega arith), eq-eqb (size % 32) 16 (omega arith)) in
+      rw (count, n) (
+      ask-yes _ _ _ (lt-ltb (s .progress .index .actions) 64 (r .actions))
+      ∙ record-turn s 2 size (rw (add-assoc at 4 size) at found) (r .stands) fits
+      )
 
   -- the reading has read a task so far, and what it reads from there is what the file is read as; the next record may have the kinds from `a` to `b`
   record Stage (t : Task) (a b : ℕ) (s : State) : Type 0 where
@@ -76,38 +102,33 @@ module _ (bytes : List ℕ) where
     goes : (u : State) → go u ≡ turnOf bytes s → from bytes u ≡ readTask bytes
     goes u e = from-next bytes s (stage .reads) u e
 
-    -- a set of facts below F fits in 8 bytes
-    below-64 : (set : ℕ) → set < 2 ^ F → set < 2 ^ 64
-    below-64 set h = lt-of-lt-of-le h (pow-mono (ranges (t .bounds) bounds .facts .1))
-
-    pairs-fit : (l : List Literals) → Every (Consistent F) l → Every PairFits l
-    pairs-fit l h =
-        every-gives
-        (λ p k. let g = consistent-is F p k in (below-64 _ (g .0), below-64 _ (g .1)))
-        h
+    few-facts : F ≤ 64
+    few-facts = ranges (t .bounds) bounds .facts .1
 
     action-goes : (x : Action) (more : List ℕ) → t .presets ≡ [] → t .cases ≡ [] → length (t .actions) < 64 → ActionGood F x → a ≤ 2 → 2 ≤ b
         → drop at bytes ≡ actionRecord x ++ more → Goes (withAction t x) 2 4 more
-    unfolding kindTurn byKind actionTurn lengthFits actionAt withRecord
+    unfolding actionAt
     action-goes x more p c few good low high h =
         let size = 16 + 32 * length (x .effects) in
         let next = at + (4 + size) in
-        let found = rw (add-assoc at 4 size) at (action-found bytes at x more (good .0) h) in
-        let read = action-read bytes at x more (good .0) h (pairs-fit (actionPairs x) (good .1)) in
+        let fits = every-gives (pair-fits F few-facts) (good .1) in
+        let read = action-read bytes at x more (good .0) h fits in
         let behind = rw (add-assoc at 4 size) at (action-behind bytes at x more (good .0) h) in
-        let ends = record-ends bytes at 2 _ size _ found .3 in
-        let asked = pairs-asked bytes at F (size / 16) (omega arith) .1 (rw read (good .1)) in
-        let turn = kind-turn s 2 size found (omega (arith, stage .low)) (omega (arith, stage .high))
-        (simp (le-leb size 272 (omega arith), eq-eqb (size % 32) 16 (omega arith))) in
-        let counted : ltb (s .progress .index .actions) 64 ≡ true = lt-ltb (s .progress .index .actions) 64 (omega (arith, stage .so-far .counted)) in
-        let passed : eqb (pairsBeforeFault (s .progress .index .bounds .facts) bytes (at + 4) (size / 16)) (size / 16) ≡ true =
-        rw (stage .so-far .bounds) (eq-eqb _ _ asked) in
+        let ends = record-ends bytes at 2 _ size _ (action-found bytes at x more (good .0) h) .3 in
+        let here : AtAction bytes s x more =
+        record {
+          there = h;
+          stands = may-stand (s .progress .last) 2 (omega (arith, stage .low)) (omega (arith, stage .high));
+          effects = omega (arith, good .0);
+          actions = omega (arith, stage .so-far .counted);
+        } in
+        let full = rw (← (stage .so-far .bounds)) at (body-full F x fits .1 (good .1)) in
         record {
           state = actionState bytes s next;
           stage =
               record {
                 so-far = action-so-far bytes s t (stage .so-far) next x p c few read (omega (arith, action-length x)) (omega arith);
-                reads = goes (actionState bytes s next) (ask-yes _ _ _ passed ∙ ask-yes _ _ _ counted ∙ turn);
+                reads = goes (actionState bytes s next) (ask-yes _ _ _ (eq-eqb _ _ full) ∙ action-turn s x more here);
                 low = omega arith;
                 high = omega arith;
               };
@@ -160,8 +181,7 @@ module _ (bytes : List ℕ) where
         let next = at + 28 in
         let found = rw (add-assoc at 4 24) at (case-found bytes at x more h) in
         let behind = rw (add-assoc at 4 24) at (case-behind bytes at x more h) in
-        let g = consistent-is F (x .goal) (good .1) in
-        let read = case-read bytes at x more h (below-64 _ (within-is F (x .start) (good .0))) (below-64 _ (g .0), below-64 _ (g .1)) in
+        let read = case-read bytes at x more h (set-fits F few-facts _ (within-is F (x .start) (good .0))) (pair-fits F few-facts (x .goal) (good .1)) in
         let turn = kind-turn s 4 24 found (omega (arith, stage .low)) (omega (arith, stage .high)) refl in
         let counted : ltb (s .progress .index .cases) 32 ≡ true = lt-ltb (s .progress .index .cases) 32 (omega (arith, stage .so-far .cased)) in
         let facts = s .progress .index .bounds .facts in

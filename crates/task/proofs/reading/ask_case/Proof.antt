@@ -1,7 +1,6 @@
 -- `task::reading::ask_case` meets its contract: questions 4 and 6 decide.
 -- Assumes nothing.
 use borrow.Author.Needs.{needs}
-use Rattle.task.proofs.Laws.Bounds.{ranges}
 use Rattle.task.proofs.Laws.Reading.{case-full, case-no, case-yes}
 use Rattle.task.proofs.reading.ask_case.Statement.{statement}
 use Rattle.task.proofs.reading.ask_case.Tie as tie
@@ -10,9 +9,7 @@ returns : tie.Need-returns
 returns c = λ next o q. case-full _ _ _ next o q (c .if1 .taken)
 
 most-requires : tie.Need-most-requires
-most-requires c κs =
-    let at-start = c .before .before .before in
-    ranges _ (at-start .pre .1) .facts
+most-requires c κs = tt
 
 eight-at-requires : tie.Need-eight-at-requires
 eight-at-requires c κs = search needs
@@ -34,7 +31,7 @@ returns-2 c =
     let at-most = at-eight-at .before in
     let at-if1 = at-most .before in
     let at-start = at-if1 .before .before .before in
-    λ next o q. case-yes _ _ _ next o q (at-if1 .if1 .left) (at-start .pre .0) _ _ _ _ (at-most .most .ensures) (at-literals-at .literals-at .ensures)
+    λ next o q. case-yes _ _ _ next o q (at-if1 .if1 .left) (at-start .pre) _ _ _ _ (at-most .most .ensures) (at-literals-at .literals-at .ensures)
     (at-consistent-to .consistent-to .ensures _ (at-most .most .ensures)) (at-eight-at .eight-at .ok) (at-eight-at .eight-at .ensures) (c .if2 .taken)
 
 returns-3 : tie.Need-returns-3
@@ -45,7 +42,7 @@ returns-3 c =
     let at-most = at-eight-at .before in
     let at-if1 = at-most .before in
     let at-start = at-if1 .before .before .before in
-    λ next o q. case-no _ _ _ next o q (at-if1 .if1 .left) (at-start .pre .0) _ _ _ _ (at-most .most .ensures) (at-literals-at .literals-at .ensures)
+    λ next o q. case-no _ _ _ next o q (at-if1 .if1 .left) (at-start .pre) _ _ _ _ (at-most .most .ensures) (at-literals-at .literals-at .ensures)
     (at-consistent-to .consistent-to .ensures _ (at-most .most .ensures)) (at-eight-at .eight-at .ok) (at-eight-at .eight-at .ensures) (c .if2 .left)
 
 pub ask-case-spec : {M : Type 1} → statement M

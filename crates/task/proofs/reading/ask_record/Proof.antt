@@ -48,12 +48,7 @@ returns-3 c =
     (kind-header _ _ _ _ _ next _ _ _ _ _ (at-match .match .keys1) (header-yes _ _ _ next _ _ _ _ (at-bounds-at .bounds-at .ensures) (at-in-range .in-range .ensures) (c .if3 .taken)))
 
 ask-action-requires : tie.Need-ask-action-requires
-ask-action-requires c κs =
-    let at-match = c .before in
-    let at-if1 = at-match .before .before .before in
-    let at-may-stand = at-if1 .before in
-    let at-start = at-may-stand .before .before in
-    (at-start .pre .0, at-start .pre .1 (sym (at-may-stand .may-stand .ensures) ∙ not-false _ (at-if1 .if1 .left)) (omega (arith, at-match .match .keys2)))
+ask-action-requires c κs = omega arith
 
 ask-preset-requires : tie.Need-ask-preset-requires
 ask-preset-requires c κs =
@@ -72,7 +67,7 @@ ask-case-requires c κs =
     let at-if1 = at-length-fits .before in
     let at-may-stand = at-if1 .before in
     let at-start = at-may-stand .before .before in
-    (case-body _ _ _ _ (at-start .pre .0) (sym (at-length-fits .length-fits .ensures) ∙ not-false _ (at-if2 .if2 .left)) (c .match .keys4), at-start .pre .1 (sym (at-may-stand .may-stand .ensures) ∙ not-false _ (at-if1 .if1 .left)) (omega (arith, c .match .keys4)))
+    case-body _ _ _ _ (at-start .pre .0) (sym (at-length-fits .length-fits .ensures) ∙ not-false _ (at-if2 .if2 .left)) (c .match .keys4)
 
 returns-4 : tie.Need-returns-4
 returns-4 c =
