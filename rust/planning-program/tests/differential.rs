@@ -1,10 +1,11 @@
 //! The proved library beside `reference`, which was written from docs/FORMATS.md and shares no code with it.
 //!
-//! Both get the same 200,000 requests of all five kinds, made from a seed: sound ones, and damaged ones that aim at every question. The
+//! Both get the same 200,000 requests of all six kinds, made from a seed: sound ones, and damaged ones that aim at every question. The
 //! answers must have the same number, value and steps made, and leave the same bytes in the lent buffer, or the same fields in the run
 //! record, after refusals and beyond what is filled too. A call for a number of steps must give what as many single steps of the library
-//! give. A difference is shown with the seed, the request as a line of vectors/README.md, and both outcomes. Every number has to come up,
-//! or the test fails.
+//! give. The pairs of an action before the first that fails are counted by the reference, and by the library's verdicts on tasks. A
+//! difference is shown with the seed, the request as a line of vectors/README.md, and both outcomes. Every number has to come up, or the
+//! test fails.
 //!
 //! With another seed or more requests, and with the table of answers:
 //!
@@ -18,6 +19,8 @@ mod differential {
     mod damage;
     mod entries;
     mod instructions;
+    #[path = "../pairs/mod.rs"]
+    mod pairs;
     mod plan_damage;
     mod positions;
     mod program_damage;
@@ -46,6 +49,8 @@ const LEAST_REQUESTS: usize = 200_000;
 const LEAST_REFUSALS: usize = 50;
 /// How often 0 has to come up for each kind of request.
 const LEAST_ACCEPTED: usize = 10_000;
+/// How often a pair has to fail.
+const LEAST_FAULTS_OF_PAIRS: usize = 1_000;
 /// How often each of their questions has to come up for the single step, and for a number of steps.
 const LEAST_REFUSALS_OF_STEPS: usize = 20;
 
@@ -61,6 +66,7 @@ fn library_and_reference_agree() {
     print!("{}", caller.tally());
     assert!(caller.tally().total() >= LEAST_REQUESTS);
     caller.tally().assert_least(LEAST_REFUSALS, LEAST_ACCEPTED);
+    caller.tally().assert_least_of_pairs(LEAST_FAULTS_OF_PAIRS);
     caller
         .tally()
         .assert_least_of_steps(LEAST_REFUSALS_OF_STEPS);

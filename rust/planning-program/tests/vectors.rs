@@ -1,12 +1,14 @@
-//! The agreed answers of vectors/level-01.txt, asked of the library's entries, of the wrapper and of the program `check_plan`; and runs by
+//! The agreed answers of vectors/level-02.txt, asked of the library's entries, of the wrapper and of the program `check_plan`; and runs by
 //! single steps beside the plans that they should follow.
 
+mod pairs;
 mod requests;
 
+use pairs::pairs_before_fault;
 use planning_program::raw::{self, Answer, StepsAnswer};
 use planning_program::{Progress, Refusal, Run, StepsRefusal, Task};
 use requests::words::shown;
-use requests::{of_kind, shown_steps_with_run, shown_with_buffer, shown_with_run, Vector};
+use requests::{number, of_kind, shown_steps_with_run, shown_with_buffer, shown_with_run, Vector};
 use std::path::{Path, PathBuf};
 use std::process::Command;
 
@@ -159,6 +161,13 @@ fn steps() {
             .map_err(|refusal| StepsRefusal { refusal, made: 0 })
             .and_then(|task| run.steps(&task, &v.other(), v.count()));
         shown_steps_with_run(steps_answer_of(result), run.record())
+    });
+}
+
+#[test]
+fn pairs_of_actions() {
+    agree(&of_kind("pairs"), |v| {
+        pairs_before_fault(number(v.words[1]), &v.other()).to_string()
     });
 }
 

@@ -39,13 +39,6 @@ impl<'a> Action<'a> {
         })
     }
 
-    pub fn well_formed(&self, known: Facts) -> bool {
-        self.precondition.well_formed(known)
-            && self.effects().all(|effect| {
-                effect.condition.well_formed(known) && effect.change.well_formed(known)
-            })
-    }
-
     /// The facts after the action: every condition is judged in the facts before it.
     pub fn apply(&self, facts: Facts) -> Result<Facts, Question> {
         ask(19, self.precondition.hold_in(facts))?;

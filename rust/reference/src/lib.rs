@@ -19,6 +19,7 @@ mod writer;
 
 pub use answer::{Answer, StepsAnswer};
 pub use checker::check_plan;
+pub use facts::pairs_before_fault;
 pub use listing::print_check;
 pub use run::Run;
 pub use single_step::step;

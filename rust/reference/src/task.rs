@@ -3,7 +3,7 @@
 
 use crate::action::Action;
 use crate::answer::{ask, at, Answer, Question, Refusal};
-use crate::facts::{Facts, Literals};
+use crate::facts::{facts_below, pairs_before_fault, Facts, Literals, PAIR_BYTES};
 use crate::instruction::{Instruction, INSTRUCTION_BYTES};
 use crate::program::Program;
 use crate::records::{Records, ACTION, BOUNDS, CASE, CLOSING, PRESET};
@@ -98,7 +98,7 @@ impl<'a> Task<'a> {
     }
 
     pub fn known_facts(&self) -> Facts {
-        Facts::MAX >> (MAX_FACTS - self.facts)
+        facts_below(self.facts)
     }
 
     /// The instruction of a preset or a step, if it may stand there and is not empty.
@@ -146,7 +146,8 @@ impl<'a> Task<'a> {
     fn add_action(&mut self, body: &'a [u8]) -> Result<(), Question> {
         let action = Action::read(body).ok_or(3u32)?;
         ask(4, self.action_count < MAX_ACTIONS)?;
-        ask(6, action.well_formed(self.known_facts()))?;
+        let pairs = body.len() / PAIR_BYTES;
+        ask(6, pairs_before_fault(self.facts, body) == pairs)?;
         self.actions[self.action_count] = action;
         self.action_count += 1;
         Ok(())

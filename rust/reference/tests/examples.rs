@@ -1,8 +1,9 @@
-//! The worked examples of the double-click task, the single step at its step bound, and numbers of steps.
+//! The worked examples of the double-click task, actions' pairs, the single step at its step bound, and numbers of steps.
 //! Buffers are full of a mark, so that every byte kept or filled shows.
 
 use reference::{
-    check_plan, check_task, print_check, step, steps, write_plan, Answer, Run, StepsAnswer,
+    check_plan, check_task, pairs_before_fault, print_check, step, steps, write_plan, Answer, Run,
+    StepsAnswer,
 };
 
 const MARK: u8 = 0xa5;
@@ -171,6 +172,39 @@ fn tasks_are_refused() {
     ];
     for (name, task, number, place) in table {
         assert_eq!(check_task(&task.bytes()), answer(number, place), "{name}");
+    }
+}
+
+#[test]
+fn pairs_before_the_first_fault_are_counted() {
+    let last = 1 << 63;
+    let others = last - 1;
+    let table = [
+        ("no bytes", 2, vec![], 0),
+        ("15 bytes", 2, vec![0; 15], 0),
+        ("17 bytes", 2, [sets(&[1, 2]), vec![MARK]].concat(), 1),
+        ("100 pairs", 2, vec![0; 1600], 100),
+        ("double-click", 2, sets(&[1, 0, 0, 0, 2, 1]), 3),
+        ("fact 2 of 2 true", 2, sets(&[4, 0]), 0),
+        ("fact 2 of 2 false", 2, sets(&[0, 4]), 0),
+        ("a fact named both ways", 2, sets(&[3, 2]), 0),
+        ("a fact in two pairs", 2, sets(&[1, 0, 0, 1]), 2),
+        ("good, bad, good", 2, sets(&[1, 2, 4, 0, 1, 2]), 1),
+        ("bad, good, bad", 2, sets(&[0, 4, 0, 0, 1, 1]), 0),
+        ("good, good, bad", 2, sets(&[0, 3, 3, 0, 1, 1]), 2),
+        ("F 0 with no fact", 0, sets(&[0, 0]), 1),
+        ("F 0 with bit 0", 0, sets(&[1, 0]), 0),
+        ("F 0 with bit 0, false", 0, sets(&[0, 1]), 0),
+        ("F 63 without bit 63", 63, sets(&[others, 0, 0, others]), 2),
+        ("F 63 with bit 63", 63, sets(&[last, 0]), 0),
+        ("F 63 with bit 63, false", 63, sets(&[0, last]), 0),
+        ("F 64 with bit 63", 64, sets(&[last, others]), 1),
+        ("F 64 with bit 63, twice", 64, sets(&[last, last]), 0),
+        ("F 255 with bit 63", 255, sets(&[others, last]), 1),
+        ("F 255 with bit 63, twice", 255, sets(&[last, last]), 0),
+    ];
+    for (name, facts, body, expected) in table {
+        assert_eq!(pairs_before_fault(facts, &body), expected, "{name}");
     }
 }
 

@@ -1,15 +1,17 @@
-//! Runs every request of vectors/level-01.txt and compares with the agreed answer.
+//! Runs every request of vectors/level-02.txt and compares with the agreed answer.
 //! Its README says how a line is written.
 
-use reference::{check_plan, check_task, print_check, step, steps, write_plan, Answer, Run};
+use reference::{
+    check_plan, check_task, pairs_before_fault, print_check, step, steps, write_plan, Answer, Run,
+};
 use std::collections::BTreeMap;
 use std::fmt::Display;
 
-const FILE: &str = concat!(env!("CARGO_MANIFEST_DIR"), "/../../vectors/level-01.txt");
+const FILE: &str = concat!(env!("CARGO_MANIFEST_DIR"), "/../../vectors/level-02.txt");
 
 #[test]
 fn all_vectors_agree() {
-    let text = std::fs::read_to_string(FILE).expect("vectors/level-01.txt is there");
+    let text = std::fs::read_to_string(FILE).expect("vectors/level-02.txt is there");
     let lines: Vec<&str> = text.lines().collect();
     let mut agreed: BTreeMap<&str, usize> = BTreeMap::new();
     let mut differences = Vec::new();
@@ -30,39 +32,43 @@ fn all_vectors_agree() {
         println!("{kind}: {count} agreed");
     }
     assert!(differences.is_empty(), "{}", differences.join("\n"));
-    for kind in ["task", "check", "write", "step", "steps", "print"] {
+    for kind in ["task", "check", "write", "step", "steps", "pairs", "print"] {
         assert!(agreed.contains_key(kind), "no {kind} line");
     }
 }
 
 fn answer(request: &str) -> String {
-    let task = bytes(word(request, 1));
     let file = |index| bytes(word(request, index));
+    let task = || file(1);
     match word(request, 0) {
-        "task" => shown(check_task(&task)),
+        "task" => shown(check_task(&task())),
         "check" => {
             let mut program = file(3);
-            let answer = check_plan(&task, &file(2), &mut program);
+            let answer = check_plan(&task(), &file(2), &mut program);
             format!("{} {}", shown(answer), hex(&program))
         }
         "write" => {
             let mut plan = file(3);
-            let answer = write_plan(&task, &file(2), &mut plan);
+            let answer = write_plan(&task(), &file(2), &mut plan);
             format!("{} {}", shown(answer), hex(&plan))
         }
         "step" => {
             let mut run = run(request, 3);
-            let answer = step(&task, &file(2), &mut run);
+            let answer = step(&task(), &file(2), &mut run);
             format!("{} {}", shown(answer), shown_run(&run))
         }
         "steps" => {
             let count = word(request, 3).parse().expect("a count");
             let mut run = run(request, 4);
-            let answer = steps(&task, &file(2), count, &mut run);
+            let answer = steps(&task(), &file(2), count, &mut run);
             let numbers = format!("{} {} {}", answer.number, answer.place, answer.made);
             format!("{numbers} {}", shown_run(&run))
         }
-        "print" => print_check(&task, &file(2)).replace('\n', "|"),
+        "pairs" => {
+            let facts = word(request, 1).parse().expect("a number of facts");
+            pairs_before_fault(facts, &file(2)).to_string()
+        }
+        "print" => print_check(&task(), &file(2)).replace('\n', "|"),
         other => panic!("unknown request {other}"),
     }
 }

@@ -28,6 +28,10 @@ impl Caller {
         self.comparison.ask(Request::Task { task });
     }
 
+    pub fn pairs_before_fault(&mut self, facts: u8, body: &[u8]) {
+        self.comparison.ask(Request::Pairs { facts, body });
+    }
+
     /// `needed` is about the length that the program has.
     pub fn check_plan(&mut self, task: &[u8], plan: &[u8], needed: usize) {
         let buffer = &self.buffer(needed);

@@ -1,12 +1,15 @@
-//! The five entries, of the proved library and of the reference, with the same types.
+//! The five entries and the pairs of an action, of the proved library and of the reference, with the same types.
 
 use planning_program::raw::{self, Answer, Run, StepsAnswer};
+
+use super::pairs;
 
 /// An entry over a task, another file and a buffer that it may fill.
 pub type FillEntry = fn(&[u8], &[u8], &mut [u8]) -> Answer;
 
 pub struct Entries {
     pub check_task: fn(&[u8]) -> Answer,
+    pub pairs_before_fault: fn(u8, &[u8]) -> usize,
     pub check_plan: FillEntry,
     pub write_plan: FillEntry,
     pub step: fn(&[u8], &[u8], &mut Run) -> Answer,
@@ -15,6 +18,7 @@ pub struct Entries {
 
 pub const LIBRARY: Entries = Entries {
     check_task: raw::check_task,
+    pairs_before_fault: pairs::pairs_before_fault,
     check_plan: raw::check_plan,
     write_plan: raw::write_plan,
     step: raw::step,
@@ -23,6 +27,7 @@ pub const LIBRARY: Entries = Entries {
 
 pub const REFERENCE: Entries = Entries {
     check_task: |task| answer(reference::check_task(task)),
+    pairs_before_fault: reference::pairs_before_fault,
     check_plan: |task, plan, buffer| answer(reference::check_plan(task, plan, buffer)),
     write_plan: |task, program, buffer| answer(reference::write_plan(task, program, buffer)),
     step: |task, program, run| answer(on_own(run, |own| reference::step(task, program, own))),

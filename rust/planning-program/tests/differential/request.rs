@@ -1,16 +1,21 @@
-//! Requests, their outcomes, and both as vectors/README.md writes them.
+//! Requests, their outcomes, and both as vectors/README.md writes them, save that an outcome of pairs has 0 or 6 before their number.
 
 use std::fmt;
 
 use planning_program::raw::{Answer, Run, StepsAnswer};
 
 use super::entries::{Entries, FillEntry};
+use super::pairs::PAIR_BYTES;
 use super::words::{shown, word, words_of};
 
 #[derive(Clone, Copy)]
 pub enum Request<'a> {
     Task {
         task: &'a [u8],
+    },
+    Pairs {
+        facts: u8,
+        body: &'a [u8],
     },
     Check {
         task: &'a [u8],
@@ -36,12 +41,12 @@ pub enum Request<'a> {
 }
 
 /// The names of the kinds of requests, in the order of `Request::kind`.
-pub const KINDS: [&str; 5] = ["task", "check", "write", "step", "steps"];
+pub const KINDS: [&str; 6] = ["task", "pairs", "check", "write", "step", "steps"];
 
 /// An answer, and all that was lent for writing as it is afterwards.
 #[derive(PartialEq)]
 pub struct Outcome {
-    /// Of a number of steps, the number and the place.
+    /// Of a number of steps, the number and the place. Of pairs, 0 or 6, and how many stand before the first that fails.
     pub answer: Answer,
     /// Of a number of steps, how many were made.
     pub made: Option<u16>,
@@ -59,10 +64,11 @@ impl Request<'_> {
     pub fn kind(&self) -> usize {
         match self {
             Request::Task { .. } => 0,
-            Request::Check { .. } => 1,
-            Request::Write { .. } => 2,
-            Request::Step { .. } => 3,
-            Request::Steps { .. } => 4,
+            Request::Pairs { .. } => 1,
+            Request::Check { .. } => 2,
+            Request::Write { .. } => 3,
+            Request::Step { .. } => 4,
+            Request::Steps { .. } => 5,
         }
     }
 
@@ -73,6 +79,10 @@ impl Request<'_> {
                 made: None,
                 lent: Lent::Nothing,
             },
+            Request::Pairs { facts, body } => {
+                let count = (entries.pairs_before_fault)(facts, body);
+                Outcome::of_pairs(count, body)
+            }
             Request::Check { task, plan, buffer } => filled(entries.check_plan, task, plan, buffer),
             Request::Write {
                 task,
@@ -102,6 +112,19 @@ impl Request<'_> {
 }
 
 impl Outcome {
+    /// Of the pairs of a body, so many before the first that fails.
+    fn of_pairs(count: usize, body: &[u8]) -> Self {
+        let all = count == body.len() / PAIR_BYTES;
+        Outcome {
+            answer: Answer {
+                number: if all { 0 } else { 6 },
+                value: count as u32,
+            },
+            made: None,
+            lent: Lent::Nothing,
+        }
+    }
+
     /// Of a number of steps, with the record afterwards.
     pub fn of_steps(answer: StepsAnswer, run: Run) -> Self {
         Outcome {
@@ -129,6 +152,7 @@ impl fmt::Display for Request<'_> {
     fn fmt(&self, f: &mut fmt::Formatter) -> fmt::Result {
         let words = match *self {
             Request::Task { task } => word(task),
+            Request::Pairs { facts, body } => format!("{facts} {}", word(body)),
             Request::Check {
                 task,
                 plan: other,

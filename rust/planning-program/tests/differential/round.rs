@@ -24,6 +24,7 @@ pub fn round(caller: &mut Caller) {
     let plan = plan.unwrap_or(record(5, &[]));
     for _ in 0..8 {
         ask_damaged_task(caller, &sample, &plan);
+        ask_pairs(caller, &sample);
         ask_damaged_program(caller, &sample);
         ask_damaged_plan(caller, &sample, &plan);
         ask_steps(caller, &sample, &sample.file, &sample.program);
@@ -44,6 +45,19 @@ fn ask_damaged_task(caller: &mut Caller, sample: &Sample, plan: &[u8]) {
         2 => ask_steps(caller, sample, &task, &sample.program),
         _ => {}
     }
+}
+
+/// The pairs of an action, in one of three with two bits changed.
+fn ask_pairs(caller: &mut Caller, sample: &Sample) {
+    let (task, random) = (&sample.task, &mut caller.random);
+    let mut body = task.actions[random.below(task.actions.len())].body();
+    if random.one_in(3) {
+        for _ in 0..2 {
+            let at = random.below(body.len());
+            body[at] ^= 1 << random.below(8);
+        }
+    }
+    caller.pairs_before_fault(task.bounds.facts, &body);
 }
 
 fn ask_damaged_program(caller: &mut Caller, sample: &Sample) {

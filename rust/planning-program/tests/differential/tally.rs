@@ -51,6 +51,12 @@ impl Tally {
         }
     }
 
+    /// Fails unless so many actions had a pair that fails.
+    pub fn assert_least_of_pairs(&self, faults: usize) {
+        let [_, pairs, ..] = &self.counts;
+        assert_each("pairs", pairs, &[6], faults);
+    }
+
     /// Fails unless each of their refusals came up so often for the single step, for a number of steps, and after some of that number.
     pub fn assert_least_of_steps(&self, refusals: usize) {
         let [.., step, steps] = &self.counts;

@@ -126,7 +126,7 @@ impl Task {
 }
 
 impl Action {
-    fn body(&self) -> Vec<u8> {
+    pub fn body(&self) -> Vec<u8> {
         let Pair(yes, no) = self.precondition;
         let mut body = sets(&[yes, no]);
         for Effect { condition, change } in &self.effects {

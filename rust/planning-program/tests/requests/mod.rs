@@ -1,4 +1,4 @@
-//! The requests of vectors/level-01.txt and their agreed answers; vectors/README.md says how they are written.
+//! The requests of vectors/level-02.txt and their agreed answers; vectors/README.md says how they are written.
 
 pub mod words;
 
@@ -10,24 +10,25 @@ pub struct Vector {
     /// The request's line in the file.
     pub line: usize,
     /// The request, its kind first.
-    words: Vec<&'static str>,
+    pub words: Vec<&'static str>,
     /// The answer.
     pub expected: &'static str,
 }
 
 /// The kinds of request, and how many the file has of each.
-pub const COUNTS: [(&str, usize); 6] = [
+pub const COUNTS: [(&str, usize); 7] = [
     ("task", 22),
     ("check", 51),
     ("write", 41),
     ("step", 42),
-    ("steps", 129),
-    ("print", 52),
+    ("steps", 42),
+    ("pairs", 153),
+    ("print", 51),
 ];
 
 /// All requests of the file.
 pub fn all() -> Vec<Vector> {
-    let text = include_str!("../../../../vectors/level-01.txt");
+    let text = include_str!("../../../../vectors/level-02.txt");
     let lines: Vec<&str> = text.lines().collect();
     let vector = |(k, pair): (usize, &[&'static str])| {
         let line = 2 * k + 1;
@@ -63,7 +64,7 @@ fn bytes(word: &str) -> Vec<u8> {
 }
 
 /// A number, which must fit its field.
-fn number<T: TryFrom<u64>>(word: &str) -> T {
+pub fn number<T: TryFrom<u64>>(word: &str) -> T {
     let number: u64 = word.parse().expect("a number");
     T::try_from(number).ok().expect("a number that fits")
 }
@@ -74,7 +75,7 @@ impl Vector {
         bytes(self.words[1])
     }
 
-    /// The plan of a check or print request, the program of any other.
+    /// The plan of a check or print request, the body of a pairs request, the program of any other.
     pub fn other(&self) -> Vec<u8> {
         bytes(self.words[2])
     }
@@ -102,7 +103,7 @@ impl Vector {
         }
     }
 
-    /// The two numbers of the agreed answer, which a print request has not.
+    /// The two numbers of the agreed answer, which a pairs or print request has not.
     pub fn answer(&self) -> Answer {
         let mut words = self.expected.split(' ').map(number);
         let mut next = || words.next().expect("a number");
