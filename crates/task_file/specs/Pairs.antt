@@ -28,7 +28,7 @@ FullCount facts a = pairsBeforeFault facts (actionBody a) ≡ 1 + 2 * length (a 
 abbrev pub PairFits : Literals → Type 0
 PairFits l = (l .positive < 2 ^ 64) × (l .negative < 2 ^ 64)
 
--- every set of an action does
+-- every set of an action fits in 8 bytes
 abbrev pub SetsFit : Action → Type 0
 SetsFit a = Every PairFits (actionPairs a)
 
@@ -54,11 +54,15 @@ pub record WellFormedCounts (t : Task) : Type 0 where
 abbrev pub WellFormedActions : Type 0
 WellFormedActions = (t : Task) → WellFormed t → WellFormedCounts t
 
--- the reading comes to the record of an action, and questions 2 to 4 say yes to it
+-- the reading comes to the record of an action, and questions 1 to 4 say yes to it
 pub record AtAction (bytes : List ℕ) (s : State) (a : Action) (rest : List ℕ) : Type 0 where
+  -- 1: its bytes are all there
   pub there : drop (s .progress .at) bytes ≡ actionRecord a ++ rest
+  -- 2: an action may stand here
   pub stands : mayStand (s .progress .last) 2 ≡ true
+  -- 3: it has at most 8 effects
   pub effects : length (a .effects) ≤ 8
+  -- 4: fewer than 64 actions came before it
   pub actions : s .progress .index .actions < 64
 
 -- then question 6 alone is asked, whether the pass over the action's body counts all pairs, and on a yes the reading goes on behind the record

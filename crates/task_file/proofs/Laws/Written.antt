@@ -19,7 +19,6 @@ use Rattle.records.proofs.Laws.Record.{record-ends}
 use Rattle.records.specs.Numbers.{byteAt, u64At}
 use Rattle.task.specs.Bounds.{inRange}
 use Rattle.task.specs.Facts.{literalsAt, within, consistent, pairsBeforeFault}
-use Rattle.task.specs.Index.{actionAt}
 use Rattle.task.specs.Instruction.{orEmpty, spelled, decodeFor, tripleAt}
 use Rattle.task.specs.Program.{lineOffset}
 use Rattle.task.specs.Outcome.{withRecord}
@@ -57,7 +56,7 @@ module _ (bytes : List ℕ) where
       → lengthFits kind size ≡ true → kindTurn bytes s kind (s .progress .at + 4) size (s .progress .at + (4 + size)) ≡ turnOf bytes s
   kind-turn s kind size r l g fits = record-turn s kind size r (may-stand (s .progress .last) kind l g) fits
 
-  -- the record of an action to which questions 2 to 4 say yes: question 6, by the pass over its body
+  -- the record of an action to which questions 1 to 4 say yes: question 6, by the pass over its body
   pub action-turn : (s : State) (x : Action) (more : List ℕ) → AtAction bytes s x more
       → ask (eqb (pairsBeforeFault (s .progress .index .bounds .facts) (actionBody x)) (1 + 2 * length (x .effects))) (refused SETS (s .progress .at))
       (go (actionState bytes s (s .progress .at + (4 + (16 + 32 * length (x .effects))))))
@@ -107,7 +106,6 @@ module _ (bytes : List ℕ) where
 
     action-goes : (x : Action) (more : List ℕ) → t .presets ≡ [] → t .cases ≡ [] → length (t .actions) < 64 → ActionGood F x → a ≤ 2 → 2 ≤ b
         → drop at bytes ≡ actionRecord x ++ more → Goes (withAction t x) 2 4 more
-    unfolding actionAt
     action-goes x more p c few good low high h =
         let size = 16 + 32 * length (x .effects) in
         let next = at + (4 + size) in
