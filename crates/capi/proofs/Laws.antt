@@ -1,4 +1,5 @@
 -- Laws of the definitions of the crates below that only this interface needs.
+pub mod Late
 pub mod Place
 pub mod Plan
 pub mod Program

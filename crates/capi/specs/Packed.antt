@@ -1,5 +1,5 @@
 -- An answer as one number of 64 bits: its number in the upper half, its value in the lower. Laws `place-small`, `plan-small`,
--- `write-small` and `step-small` have the values of a task's, a plan's, a program's and a single step's answer below 2 ^ 32.
+-- `write-small`, `step-small` and `add-small` have the values of a task's, a plan's, a program's, a single step's and a late case's answer below 2 ^ 32.
 -- The answer to a number of steps has three parts: its number in the upper 16 bits, the steps made in the next 16, and its place, below 2 ^ 32 by law
 -- `steps-small`, in the lower half.
 use Prim.Native.Nat.{ℕ, _+_, _*_, _^_}

@@ -2,10 +2,12 @@
 // number is 0, and the others number * 2^32 + value.
 use checker::check::check_plan;
 use checker::write::write_plan;
+use late_case::late::add_case;
 use step::position::Position;
 use step::single::step_in_place;
 use steps::many::StepsAnswer;
 use steps::many::many_steps_in_place;
+use task::facts::Literals;
 use task::reading::read_task;
 use task::verdict::Verdict;
 ghost use mathlib.Core.Path.{_≡_};
@@ -14,8 +16,10 @@ ghost use Rattle.task.specs.Reading.{readTask};
 ghost use Rattle.task.specs.Verdict.{valueOf};
 ghost use Rattle.step.specs.Single.{singleStep};
 ghost use Rattle.steps.specs.Many.{manySteps};
+ghost use Rattle.late_case.specs.Late.{addVerdict, addedBuffer};
 ghost use Rattle.checker.specs.Check.{check};
 ghost use Rattle.checker.specs.Write.{write};
+ghost use Rattle.capi.specs.Case.{givenCase};
 ghost use Rattle.capi.specs.Packed.{packed, placeOf, packedSteps};
 
 // An answer as one number.
@@ -96,4 +100,39 @@ pub extern "C" fn pp_steps(task: &[u8], program: &[u8], count: u64, run: &mut Po
 {
     let answer = many_steps_in_place(task, program, count, run);
     packed_steps(answer)
+}
+
+// What `pp_add_case` does, with the run by value: whatever decides is here, and not behind a reference.
+fn added_case(
+    buffer: &mut [u8],
+    given: usize,
+    start: u64,
+    positive: u64,
+    negative: u64,
+    run: Position,
+) -> u64
+    ensures { λ r. ⌜ (r ≡ packed (addVerdict (now (buffer .entry)) given (givenCase start positive negative) run))
+        × (now (buffer .exit) ≡ addedBuffer (now (buffer .entry)) given (givenCase start positive negative) run) ⌝ }
+{
+    let goal = Literals { positive, negative };
+    let verdict = add_case(buffer, given, start, goal, run);
+    packed(verdict)
+}
+
+// Adds a case to the task that the buffer's first `given` bytes are, under a run that is only read: questions 1 to 9, 31 to 34, and 6 of the new sets. A
+// length above the buffer's means all of it. If it is accepted, the buffer begins with the longer task, whose length is the value, and later bytes keep
+// their value; a refusal leaves the buffer as it was.
+#[no_mangle]
+pub extern "C" fn pp_add_case(
+    buffer: &mut [u8],
+    given: usize,
+    start: u64,
+    positive: u64,
+    negative: u64,
+    run: &Position,
+) -> u64
+    ensures { λ r. ⌜ (r ≡ packed (addVerdict (now (buffer .entry)) given (givenCase start positive negative) (now (run .entry))))
+        × (now (buffer .exit) ≡ addedBuffer (now (buffer .entry)) given (givenCase start positive negative) (now (run .entry))) ⌝ }
+{
+    added_case(buffer, given, start, positive, negative, *run)
 }

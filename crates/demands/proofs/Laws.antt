@@ -8,6 +8,7 @@ pub mod Heart
 pub mod Held
 pub mod Kinds
 pub mod Leads
+pub mod Longer
 pub mod Makes
 pub mod Plan
 pub mod Presets

@@ -1,5 +1,6 @@
 pub mod Demand2
 pub mod Demand3
+pub mod LateCase
 pub mod Laws
 pub mod ManySteps
 pub mod SingleSteps

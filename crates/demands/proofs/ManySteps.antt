@@ -25,7 +25,8 @@ use Rattle.steps.specs.Many.{capped, takenTo, stepsFrom, manySteps}
 use Rattle.steps.specs.declared.many.StepsTaken.{StepsTaken}
 use Rattle.steps.proofs.Laws.Many.{few-asked, many-task-refused, many-program-refused, BothPass, many-impossible, many-runs}
 use Rattle.steps.proofs.Laws.Running.{steps-refused, steps-finished, steps-onward}
-use Rattle.demands.specs.ManySteps.{counting, later, CallsJoin, madeBy, asCall, repeated, CallsAreSteps}
+use Rattle.demands.specs.ManySteps.{counting, later, CallsJoin, madeBy, asCall, CallsAreSteps}
+use Rattle.demands.specs.SingleSteps.{repeated}
 
 module _ (bytes program : List ℕ) where
   -- a single step that leaves the record alone ends a call, with this verdict by the steps made before

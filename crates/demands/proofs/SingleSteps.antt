@@ -41,7 +41,7 @@ module _ (bytes program : List ℕ) (v p : ℕ) (h : readTask bytes .verdict ≡
   passes = passed bytes v h
 
   -- from a possible position with a frame the single step is the program's step
-  single-runs : (s next : Position) → possible (t .index) s ≡ true → 0 < s .depth → runStep bytes (t .index) (t .offsets) program s ≡ go next
+  pub single-runs : (s next : Position) → possible (t .index) s ≡ true → 0 < s .depth → runStep bytes (t .index) (t .offsets) program s ≡ go next
       → singleStep bytes program s ≡ record { verdict = Accepted 1; position = next }
   unfolding answered
   single-runs s next y d e =

@@ -34,7 +34,7 @@ as-printed = (refl, refl)
 pub double-click : DoubleClick
 unfolding
     loop.ask loop.after loop.turns loop.loop numbers.ifThere numbers.u16At numbers.u64At numbers.numberBytes records.whole records.recordAt records.recordBytes records.closing
-    bounds.boundsAt bounds.inRange sets.literalsAt sets.within sets.consistent sets.pairConsistent sets.pairsBeforeFaultAt first.firstNoFrom first.firstNo
+    bounds.boundsAt bounds.inRange sets.literalsAt sets.within sets.consistent sets.caseConsistent sets.pairConsistent sets.pairsBeforeFaultAt first.firstNoFrom first.firstNo
     index.rowFrom index.actionAt index.effectAt index.effectsOf index.caseAt
     reading.noIndex reading.noLayout reading.begin reading.accepted reading.mayStand reading.byKind reading.lengthFits reading.headerTurn reading.actionTurn
     reading.caseTurn reading.closeTurn reading.kindTurn reading.onRecord reading.turnOf reading.readTask
@@ -46,7 +46,7 @@ double-click = (refl, refl)
 pub starred : Starred
 unfolding answerTo table
     loop.ask loop.after loop.turns loop.loop numbers.ifThere numbers.u16At numbers.u64At numbers.numberBytes records.whole records.recordAt records.recordBytes records.closing
-    bounds.boundsAt bounds.inRange bounds.lineCount sets.literalsAt sets.within sets.consistent sets.pairConsistent sets.pairsBeforeFaultAt
+    bounds.boundsAt bounds.inRange bounds.lineCount sets.literalsAt sets.within sets.consistent sets.caseConsistent sets.pairConsistent sets.pairsBeforeFaultAt
     first.firstNoFrom first.firstNo index.rowFrom index.actionAt index.effectAt index.effectsOf index.caseAt
     instruction.keep instruction.spelled instruction.allowed instruction.whereAllowed instruction.decode instruction.decodeFor
     instruction.encode instruction.tripleAt instruction.withTriple

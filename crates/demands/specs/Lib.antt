@@ -1,6 +1,7 @@
 pub mod Compiled
 pub mod Demand2
 pub mod Demand3
+pub mod LateCase
 pub mod ManySteps
 pub mod SingleSteps
 pub mod Starred

@@ -1,5 +1,5 @@
 -- Calls for a number of steps, beside one another and beside single steps: two calls are one call, and a call for one step is a single step.
-use Prim.Native.Nat.{ℕ, zero, suc, _+_, _≤_}
+use Prim.Native.Nat.{ℕ, _+_, _≤_}
 use mathlib.Core.Path.{_≡_}
 use mathlib.Core.List.{List}
 use lib.ListN.{length}
@@ -10,6 +10,7 @@ use Rattle.step.specs.declared.perform.Stepped.{Stepped}
 use Rattle.step.specs.declared.position.Position.{Position}
 use Rattle.steps.specs.Many.{capped, takenTo, manySteps}
 use Rattle.steps.specs.declared.many.StepsTaken.{StepsTaken}
+use Rattle.demands.specs.SingleSteps.{repeated, stepsOn}
 
 -- a value with j steps more; a refusal has its number and its place whatever was made before
 unfoldable pub counting : ℕ → Verdict → Verdict
@@ -36,16 +37,11 @@ madeBy (Refused question place) = 0
 unfoldable pub asCall : Stepped → StepsTaken
 asCall step = takenTo (step .verdict) (madeBy (step .verdict)) (step .position)
 
--- the record after k turns
-unfoldable pub repeated : (Position → Position) → ℕ → Position → Position
-repeated turn zero s = s
-repeated turn (suc k) s = repeated turn k (turn s)
-
 -- k calls for one step are k single steps: each gives the single step's answer and its position, so the record after k of them is the same. One call
 -- for k leaves that record too, since a single step that is refused, or comes after the finish, leaves it alone.
 pub record CallsAreSteps (bytes program : List ℕ) : Type 0 where
   pub one : (s : Position) → manySteps bytes program 1 s ≡ asCall (singleStep bytes program s)
   pub all : (k : ℕ) (s : Position)
-      → repeated (λ r. manySteps bytes program 1 r .position) k s ≡ repeated (λ r. singleStep bytes program r .position) k s
+      → repeated (λ r. manySteps bytes program 1 r .position) k s ≡ stepsOn bytes program k s
   pub together : (k : ℕ) (s : Position)
-      → manySteps bytes program k s .position ≡ repeated (λ r. singleStep bytes program r .position) (capped k) s
+      → manySteps bytes program k s .position ≡ stepsOn bytes program (capped k) s

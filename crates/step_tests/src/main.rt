@@ -1,12 +1,16 @@
-// Runs stored positions through the single step of a run, and through the call for a number of steps, and writes what they answer.
+// Runs stored positions through the single step of a run and through the call for a number of steps, adds stored cases to tasks, and writes what they
+// answer.
 //
 // The input is a run of records. Kind 0: text, written as it is. Kind 65535: a program's length (2 bytes), the program and a task; the writer
 // answers, and if it accepts, as many single steps as its plan has are made from the first case's start, each behind the plan's own step, and one
 // call more. Kind 65534: how many calls (2 bytes), for how many steps each asks (8 bytes), and then a position (44 bytes: facts 8, steps 2, case 1,
 // depth 1, sixteen frames of procedure and line), a program and a task as above; the calls are made, each from the position that the one before
-// left. Any other kind k: a position, a program and a task; k single steps are made in the same way. After each step or call its number, its value,
-// after a call the number of steps made, and the whole position are written.
+// left. Kind 65533: how many steps (2 bytes), a length, a start and the two sets of a goal (8 bytes each), and then a position, a program and a buffer; the
+// case is added to the task of that length in the buffer, and if that is accepted, so many single steps are made on the longer task. Any other kind k: a
+// position, a program and a task; k single steps are made, each from the position that the one before left. After each step or call its number, its value,
+// after a call the number of steps made, and the whole position are written; after the call for a late case its number, its value and the whole buffer.
 use checker::write::write_plan;
+use late_case::late::add_case;
 use libc::STDIN_FILENO;
 use libc::STDOUT_FILENO;
 use records::numbers::byte_at;
@@ -16,6 +20,7 @@ use step::position::Frame;
 use step::position::Position;
 use step::single::single_step;
 use steps::many::many_steps;
+use task::facts::Literals;
 use task::index::Index;
 use task::index::case_at;
 use task::instruction::Line;
@@ -161,6 +166,74 @@ fn write_calls_request(bytes: &[u8]) {
     write_request(0, &bytes[2..end], &bytes[end..]);
 }
 
+fn write_bytes(bytes: &[u8]) {
+    write(b" [");
+    for k in 0..bytes.len() {
+        io::print_hex(STDOUT_FILENO, byte_at(bytes, k) as u64, 2);
+    }
+    write(b"]\n");
+}
+
+// So many single steps on a task of `size` bytes that begins at `end` of a request, behind the program.
+fn write_on(bytes: &[u8], end: usize, size: usize, run: Position)
+    requires { ⌜ 80 ≤ end ⌝ }
+{
+    if bytes.len() < end {
+        return;
+    }
+    if bytes.len() - end < size {
+        return;
+    }
+    let stop = end + size;
+    write_steps(two_at(bytes, 0), &bytes[end..stop], &bytes[80..end], run);
+}
+
+// What is to be added to the task of a given length: a start and a goal.
+struct Late {
+    given: usize,
+    start: u64,
+    goal: Literals,
+}
+
+fn late_of(bytes: &[u8]) -> Late
+    requires { ⌜ 34 ≤ length (now bytes) ⌝ }
+{
+    Late {
+        given: eight_at(bytes, 2) as usize,
+        start: eight_at(bytes, 10),
+        goal: Literals {
+            positive: eight_at(bytes, 18),
+            negative: eight_at(bytes, 26),
+        },
+    }
+}
+
+// Adds a case to the task in a buffer, and writes the answer and the buffer.
+fn write_late(buffer: &mut [u8], late: Late, run: Position) -> Verdict {
+    let verdict = add_case(buffer, late.given, late.start, late.goal, run);
+    write_verdict(verdict);
+    write_bytes(buffer);
+    verdict
+}
+
+// Adds a case under the run of a request, and goes on with the run.
+fn write_late_request(bytes: &mut [u8]) {
+    if bytes.len() < 80 {
+        return;
+    }
+    let end = 80 + two_at(bytes, 78) as usize;
+    if bytes.len() < end {
+        return;
+    }
+    let late = late_of(bytes);
+    let run = position_of(&bytes[34..]);
+    let verdict = write_late(&mut bytes[end..], late, run);
+    let Verdict::Accepted { value: size } = verdict else {
+        return;
+    };
+    write_on(bytes, end, size, run);
+}
+
 // Writes the step that a plan has at an offset: its line and its instruction's three bytes.
 fn write_planned(plan: &[u8], at: usize)
     requires { ⌜ at ≤ 900 ⌝ }
@@ -257,6 +330,7 @@ fn answer_body(kind: u16, body: &mut [u8]) {
         0 => write(body),
         65535 => write_run_request(body),
         65534 => write_calls_request(body),
+        65533 => write_late_request(body),
         _ => write_request(kind, b"", body),
     }
 }

@@ -27,6 +27,10 @@ Greatest facts most = (set : ℕ) → set < 2 ^ 64 → leb set most ≡ within f
 unfoldable pub consistent : ℕ → Literals → Bool
 consistent facts l = within facts (l .positive) && within facts (l .negative) && eqb (bitAnd (l .positive) (l .negative)) 0
 
+-- question 6 on a case: its start has facts below `facts` alone, and its goal passes as a pair
+unfoldable pub caseConsistent : ℕ → ℕ → Literals → Bool
+caseConsistent facts start goal = within facts start && consistent facts goal
+
 -- question 6 on the pair number k of those laid end to end from an offset
 unfoldable pub pairConsistent : ℕ → List ℕ → ℕ → ℕ → Bool
 pairConsistent facts bytes at k = consistent facts (literalsAt bytes (at + 16 * k))

@@ -11,7 +11,7 @@ use Rattle.records.specs.Record.{recordAt}
 use Rattle.records.specs.declared.record.Found.{Found}
 use Rattle.records.specs.declared.record.Found.the-variants.{Record, Missing}
 use Rattle.task.specs.Bounds.{boundsAt, between, inRange}
-use Rattle.task.specs.Facts.{literalsAt, within, consistent, pairsBeforeFaultAt}
+use Rattle.task.specs.Facts.{literalsAt, caseConsistent, pairsBeforeFaultAt}
 use Rattle.task.specs.Instruction.{decodeFor, encode, tripleAt, withTriple}
 use Rattle.task.specs.Program.{lineOffset}
 use Rattle.task.specs.Questions.{WHOLE, KIND, LENGTH, COUNT, BOUNDS, SETS, PRESET, REPEATED, CLOSED}
@@ -129,9 +129,7 @@ module _ (bytes : List ℕ) (s : State) (body : ℕ) where
   unfoldable pub caseTurn : ℕ → Turn State Reading
   caseTurn next =
       ask (ltb (index .cases) 32) (refused COUNT at)
-      (ask
-      (within (index .bounds .facts) (u64At bytes body) && consistent (index .bounds .facts) (literalsAt bytes (body + 8)))
-      (refused SETS at)
+      (ask (caseConsistent (index .bounds .facts) (u64At bytes body) (literalsAt bytes (body + 8))) (refused SETS at)
       (go
       (record {
         progress =

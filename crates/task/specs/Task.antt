@@ -1,5 +1,5 @@
 -- The planning task: bounds; actions, each a precondition and conditional effects, and cases, each a start and a goal, as the papers have them; and preset lines.
-use mathlib.Core.List.{List}
+use mathlib.Core.List.{List, [], _∷_, _++_}
 use Rattle.task.specs.declared.bounds.Bounds.{Bounds}
 use Rattle.task.specs.declared.facts.Literals.{Literals}
 use Rattle.task.specs.declared.index.Case.{Case}
@@ -25,3 +25,7 @@ pub record Task : Type 0 where
   pub actions : List Action
   pub presets : List Preset
   pub cases : List Case
+
+-- the same task with a case added last
+abbrev pub withCase : Task → Case → Task
+withCase t c = record { bounds = t .bounds; actions = t .actions; presets = t .presets; cases = t .cases ++ (c ∷ []) }

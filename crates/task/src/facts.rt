@@ -3,7 +3,7 @@ use records::numbers::eight_at;
 ghost use mathlib.Core.Path.{_≡_};
 ghost use Prim.Native.Nat.{ℕ, _+_, _≤_};
 ghost use lib.ListN.{length};
-ghost use Rattle.task.specs.Facts.{literalsAt, within, Greatest, consistent, pairsBeforeFault};
+ghost use Rattle.task.specs.Facts.{literalsAt, within, Greatest, consistent, caseConsistent, pairsBeforeFault};
 
 // A pair of fact sets: the facts to be true and the facts to be false.
 pub struct Literals {
@@ -48,6 +48,14 @@ pub(crate) fn consistent_to(most: u64, literals: Literals) -> bool
         return false;
     }
     (literals.positive | literals.negative) <= most
+}
+
+// Question 6 on a case: its start, and its goal pair.
+pub fn case_consistent(facts: u8, start: u64, goal: Literals) -> bool
+    ensures { λ r. ⌜ r ≡ caseConsistent facts start goal ⌝ }
+{
+    let most = most(facts);
+    (start <= most) & consistent_to(most, goal)
 }
 
 // The pass over an action's pairs, given the greatest set.

@@ -3,9 +3,8 @@
 use crate::bounds::Bounds;
 use crate::bounds::bounds_at;
 use crate::bounds::in_range;
-use crate::facts::consistent_to;
+use crate::facts::case_consistent;
 use crate::facts::literals_at;
-use crate::facts::most;
 use crate::facts::pairs_before_fault;
 use crate::index::Index;
 use crate::index::Layout;
@@ -144,8 +143,8 @@ fn ask_case(task: &[u8], p: Progress, body: usize) -> Answer
     if 32 <= p.index.cases {
         return Answer::No(COUNT);
     }
-    let most = most(p.index.bounds.facts);
-    if (eight_at(task, body) <= most) & consistent_to(most, literals_at(task, body + 8)) {
+    let start = eight_at(task, body);
+    if case_consistent(p.index.bounds.facts, start, literals_at(task, body + 8)) {
         return Answer::Yes;
     }
     Answer::No(SETS)

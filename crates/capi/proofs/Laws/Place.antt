@@ -1,6 +1,6 @@
 -- A task's answer is a number of 32 bits, because the offsets that the reading comes to are small. Questions 4 and 8 admit 64 actions,
 -- 32 cases and one preset for each of 256 lines, question 3 bounds the length of each record, and question 2 has kind 1 stand first alone.
--- So the bytes read so far, and as many as the records still admitted may have, stay within one number, turn by turn.
+-- So the bytes read so far, and as many as the records still admitted may have, stay within one number, turn by turn; and a file that is accepted is read to its end.
 -- Assumes nothing.
 use Prim.Native.Nat.{ℕ, zero, suc, _+_, _-_, _*_, _^_, _≤_, _<_, zero-le}
 use mathlib.Core.Path.{_≡_, refl, ap}
@@ -18,6 +18,8 @@ use Rattle.task.proofs.Laws.Bounds.{ranges}
 use Rattle.task.proofs.Laws.Instruction.{op-above, decoded-for, put-length}
 use Rattle.task.proofs.Laws.Triple.{put-here, put-other}
 use Rattle.task.proofs.Laws.Kept.{least, Kinds, reading-keeps}
+use Rattle.task.proofs.Laws.Verdict.{refused-accepted}
+use Rattle.task.specs.Questions.{PRESET}
 use Rattle.task.specs.Bounds.{boundsAt}
 use Rattle.task.specs.Instruction.{decodeFor, encode, tripleAt, withTriple}
 use Rattle.task.specs.Program.{lineOffset}
@@ -28,6 +30,7 @@ use Rattle.task.specs.declared.instruction.Triple.{Triple}
 use Rattle.task.specs.declared.instruction.Decoded.{Decoded}
 use Rattle.task.specs.declared.instruction.Decoded.the-variants.{Is, Nothing}
 use Rattle.task.specs.declared.reading.Reading.{Reading}
+use Rattle.task.specs.declared.verdict.Verdict.the-variants.{Accepted}
 
 -- how many of the first so many lines of a preset program are not preset
 free : List ℕ → ℕ → ℕ
@@ -93,49 +96,54 @@ begin-small =
       room = omega (arith, free-most (replicate 768 0) 256);
     }
 
--- an answer of 32 bits
-abbrev Near : Reading → Type 0
-Near r = valueOf (r .verdict) < 2 ^ 32
+-- an answer of 32 bits; and bytes that are accepted are at most those that the records admitted have, and the closing one's
+record Near (bytes : List ℕ) (r : Reading) : Type 0 where
+  value : valueOf (r .verdict) < 2 ^ 32
+  size : (v : ℕ) → r .verdict ≡ Accepted v → length bytes ≤ most + 4
+
+-- a refusal, by its place
+refused-near : (bytes : List ℕ) (question place : ℕ) → place < 2 ^ 32 → Near bytes (refused question place)
+unfolding refused
+refused-near bytes question place h = record { value = h; size = λ v e. absurd (refused-accepted e) }
 
 -- a turn that gives such an answer, or such a state
-abbrev Good : Turn State Reading → Type 0
-Good = Keeps Small Near
+abbrev Good : List ℕ → Turn State Reading → Type 0
+Good bytes = Keeps Small (Near bytes)
 
-ask-good : (answer : Bool) (question place : ℕ) (rest : Turn State Reading) → place < 2 ^ 32 → (answer ≡ true → Good rest)
-    → Good (ask answer (refused question place) rest)
-unfolding refused
-ask-good answer question place rest h k = ask-keeps Small Near answer _ rest h k
+ask-good : (bytes : List ℕ) (answer : Bool) (question place : ℕ) (rest : Turn State Reading) → place < 2 ^ 32 → (answer ≡ true → Good bytes rest)
+    → Good bytes (ask answer (refused question place) rest)
+ask-good bytes answer question place rest h k = ask-keeps Small (Near bytes) answer _ rest (refused-near bytes question place h) k
 
 module _ (bytes : List ℕ) (s : State) (small : Small s) where
   here : s .progress .at < 2 ^ 32
   here = omega arith
 
   module _ (start next : ℕ) where
-    header-good : next ≡ s .progress .at + 10 → s .progress .at ≡ 0 → Good (headerTurn bytes s start next)
+    header-good : next ≡ s .progress .at + 10 → s .progress .at ≡ 0 → Good bytes (headerTurn bytes s start next)
     unfolding headerTurn
     header-good n z =
-        ask-good _ _ _ _ here λ h.
+        ask-good bytes _ _ _ _ here λ h.
         let r = ranges (boundsAt bytes start) h in
         omega (arith, free-most (s .presets) 256)
 
-    action-good : (size : ℕ) → next ≤ s .progress .at + 276 → Good (actionTurn bytes s start size next)
+    action-good : (size : ℕ) → next ≤ s .progress .at + 276 → Good bytes (actionTurn bytes s start size next)
     unfolding actionTurn
     action-good size n =
-        ask-good _ _ _ _ here λ h. ask-good _ _ _ _ here λ k. omega (arith, ltb-true (s .progress .index .actions) 64 h)
+        ask-good bytes _ _ _ _ here λ h. ask-good bytes _ _ _ _ here λ k. omega (arith, ltb-true (s .progress .index .actions) 64 h)
 
-    case-good : next ≡ s .progress .at + 28 → Good (caseTurn bytes s start next)
+    case-good : next ≡ s .progress .at + 28 → Good bytes (caseTurn bytes s start next)
     unfolding caseTurn
     case-good n =
-        ask-good _ _ _ _ here λ h. ask-good _ _ _ _ here λ k. omega (arith, ltb-true (s .progress .index .cases) 32 h)
+        ask-good bytes _ _ _ _ here λ h. ask-good bytes _ _ _ _ here λ k. omega (arith, ltb-true (s .progress .index .cases) 32 h)
 
     on-preset-good : next ≡ s .progress .at + 9 → (d : Decoded)
         → decodeFor (s .progress .index .bounds) (s .progress .index .actions) (record { 0 = byteAt bytes start }) (record { 0 = byteAt bytes (start + 1) }) (tripleAt bytes (start + 2))
         ≡ d
-        → Good (onPreset bytes s start next d)
-    unfolding onPreset refused lineOffset
-    on-preset-good n Nothing e = here
+        → Good bytes (onPreset bytes s start next d)
+    unfolding onPreset lineOffset
+    on-preset-good n Nothing e = refused-near bytes PRESET (s .progress .at) here
     on-preset-good n (Is w) e =
-        ask-good _ _ _ _ here λ h.
+        ask-good bytes _ _ _ _ here λ h.
         let d = decoded-for _ _ _ _ _ w e in
         let b = s .progress .index .bounds in
         let line = byteAt bytes start * (b .last + 1) + byteAt bytes (start + 1) in
@@ -144,19 +152,19 @@ module _ (bytes : List ℕ) (s : State) (small : Small s) where
         let fewer = free-fewer (s .presets) line (encode w) (omega arith) (eqb-true _ 0 h) written 256 below in
         omega (arith, put-length (s .presets) (3 * line) (encode w))
 
-    preset-good : next ≡ s .progress .at + 9 → Good (presetTurn bytes s start next)
+    preset-good : next ≡ s .progress .at + 9 → Good bytes (presetTurn bytes s start next)
     unfolding presetTurn
     preset-good n = on-preset-good n _ refl
 
-  close-good : (next : ℕ) → next ≡ s .progress .at + 4 → Good (closeTurn bytes s next)
+  close-good : (next : ℕ) → next ≡ s .progress .at + 4 → Good bytes (closeTurn bytes s next)
   unfolding closeTurn accepted
-  close-good next n = ask-good _ _ _ _ (omega arith) (λ h. omega arith)
+  close-good next n =
+      ask-good bytes _ _ _ _ (omega arith) (λ h. record { value = omega arith; size = λ v e. omega (arith, eqb-true next (length bytes) h, n, small .room) })
 
-  kinds-good : Kinds Small Near bytes s
-  unfolding refused
+  kinds-good : Kinds Small (Near bytes) bytes s
   kinds-good =
       record {
-        refusal = λ question. here;
+        refusal = λ question. refused-near bytes question (s .progress .at) here;
         header = λ f r. header-good _ _ refl (small .first (f .low));
         action = λ size f r l m. action-good _ _ size (omega arith);
         preset = λ f r. preset-good _ _ refl;
@@ -164,5 +172,12 @@ module _ (bytes : List ℕ) (s : State) (small : Small s) where
         close = λ f r. close-good _ refl;
       }
 
+near : (bytes : List ℕ) → Near bytes (readTask bytes)
+near bytes = reading-keeps Small (Near bytes) bytes begin-small (kinds-good bytes)
+
 pub place-small : (bytes : List ℕ) → valueOf (readTask bytes .verdict) < 2 ^ 32
-place-small bytes = reading-keeps Small Near bytes begin-small (kinds-good bytes)
+place-small bytes = near bytes .value
+
+-- a task that passes has, with 28 bytes more, fewer than 2 ^ 32
+pub task-small : (bytes : List ℕ) (v : ℕ) → readTask bytes .verdict ≡ Accepted v → length bytes + 28 < 2 ^ 32
+task-small bytes v e = omega (arith, near bytes .size v e)

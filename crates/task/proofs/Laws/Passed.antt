@@ -4,7 +4,7 @@
 -- Assumes nothing.
 use Prim.Native.Nat.{ℕ, _+_, _*_, _/_, _%_, _≤_, _<_}
 use mathlib.Core.Path.{_≡_, sym}
-use mathlib.Core.Bool.{Bool, true, cond, _&&_}
+use mathlib.Core.Bool.{Bool, true, cond}
 use mathlib.Core.List.{List}
 use native.Mathlib.Decide.{ℕ-discrete}
 use native.Mathlib.Omega.{arith}
@@ -22,7 +22,7 @@ use Rattle.task.proofs.Laws.Facts.{pairs-consistent}
 use Rattle.task.proofs.Laws.Instruction.{put-length}
 use Rattle.task.proofs.Laws.Kept.{least, greatest, Follows, There, Kinds, IfAccepted, refused-vacuous, ask-if-accepted, reading-keeps, turn-keeps, follows}
 use Rattle.task.specs.Bounds.{inRange}
-use Rattle.task.specs.Facts.{literalsAt, within, consistent, pairsBeforeFaultAt}
+use Rattle.task.specs.Facts.{literalsAt, within, consistent, caseConsistent, pairsBeforeFaultAt}
 use Rattle.task.specs.Index.{actionAt, effectAt, caseAt}
 use Rattle.task.specs.Instruction.{encode}
 use Rattle.task.specs.Program.{lineOffset}
@@ -81,8 +81,8 @@ unfolding actionAt
 action-there bytes at size e m h = omega arith
 
 case-sound : (facts : ℕ) (bytes : List ℕ) (at first c : ℕ) → at ≡ first + 28 * c
-    → (within facts (u64At bytes (at + 4)) && consistent facts (literalsAt bytes (at + 4 + 8))) ≡ true → CaseSound facts bytes first c
-unfolding caseAt
+    → caseConsistent facts (u64At bytes (at + 4)) (literalsAt bytes (at + 4 + 8)) ≡ true → CaseSound facts bytes first c
+unfolding caseAt caseConsistent
 case-sound facts bytes at first c e h =
     let s : first + (4 + 28 * c) ≡ at + 4 = omega arith in
     let g : first + (12 + 28 * c) ≡ at + 4 + 8 = omega arith in

@@ -1,12 +1,12 @@
 -- One record of a task file: what its answers lead to, kind by kind, as the reader's own answer says it.
 -- Assumes nothing.
-use Prim.Native.Nat.{ℕ, _+_, _/_, _^_, _≤_, _<_}
+use Prim.Native.Nat.{ℕ, _+_, _/_, _≤_, _<_}
 use mathlib.Core.Path.{_≡_, refl, sym, ap, _∙_}
-use mathlib.Core.Bool.{Bool, true, false, cond, _&&_}
+use mathlib.Core.Bool.{Bool, true, false, cond}
 use mathlib.Core.List.{List}
 use native.Mathlib.Omega.{arith}
 use lib.ListN.{length, set}
-use lib.Dec.{eqb, leb, ltb}
+use lib.Dec.{eqb, ltb}
 use borrow.Author.Tests.{lt-ltb, le-ltb, eq-eqb, ne-eqb, eqb-true}
 use Rattle.records.specs.Loop.{Turn}
 use Rattle.records.specs.Numbers.{byteAt, eightAt, u64At}
@@ -17,7 +17,7 @@ use Rattle.records.proofs.Laws.Loop.{ask-yes, ask-no}
 use Rattle.records.proofs.Laws.Numbers.{u64-there}
 use Rattle.records.proofs.Laws.Record.{record-ends}
 use Rattle.task.specs.Bounds.{boundsAt, inRange}
-use Rattle.task.specs.Facts.{literalsAt, within, Greatest, consistent, pairsBeforeFaultAt}
+use Rattle.task.specs.Facts.{literalsAt, caseConsistent, pairsBeforeFaultAt}
 use Rattle.task.specs.Instruction.{decodeFor, encode, tripleAt, withTriple}
 use Rattle.task.specs.Program.{lineOffset, isInstruction}
 use Rattle.task.proofs.Laws.Instruction.{not-instruction, instruction-is, decoded-for, decoded-there}
@@ -158,20 +158,19 @@ module _ (bytes : List ℕ) (p : Progress) (body next : ℕ) (o q : List ℕ) wh
   unfolding turned caseTurn
   case-full h = ask-no _ _ _ (le-ltb (p .index .cases) 32 h)
 
-  module _ (h : p .index .cases < 32) (there : body + 24 ≤ length bytes) (most set : ℕ) (goal : Literals) (c : Bool)
-      (greatest : Greatest (p .index .bounds .facts) most) (e₁ : goal ≡ literalsAt bytes (body + 8)) (e₂ : c ≡ consistent (p .index .bounds .facts) goal)
-      (small : set < 2 ^ 64) (e₃ : set ≡ eightAt bytes body) where
+  module _ (h : p .index .cases < 32) (there : body + 24 ≤ length bytes) (start : ℕ) (goal : Literals) (c : Bool)
+      (e₁ : start ≡ eightAt bytes body) (e₂ : goal ≡ literalsAt bytes (body + 8)) (e₃ : c ≡ caseConsistent (p .index .bounds .facts) start goal) where
     few-cases : ltb (p .index .cases) 32 ≡ true
     few-cases = lt-ltb (p .index .cases) 32 h
 
-    sets : (leb set most && c) ≡ (within (p .index .bounds .facts) (u64At bytes body) && consistent (p .index .bounds .facts) (literalsAt bytes (body + 8)))
-    sets = cc (greatest set small, u64-there bytes body set e₃ (omega arith))
+    sets : c ≡ caseConsistent (p .index .bounds .facts) (u64At bytes body) (literalsAt bytes (body + 8))
+    sets = cc (u64-there bytes body start e₁ (omega arith))
 
-    pub case-no : (leb set most && c) ≡ false → turned bytes p 4 body next (No SETS) o q ≡ caseTurn bytes (state p o q) body next
+    pub case-no : c ≡ false → turned bytes p 4 body next (No SETS) o q ≡ caseTurn bytes (state p o q) body next
     unfolding turned caseTurn
     case-no k = ask-no _ _ _ (sym sets ∙ k) ∙ ask-yes _ _ _ few-cases
 
-    pub case-yes : (leb set most && c) ≡ true → turned bytes p 4 body next Yes o q ≡ caseTurn bytes (state p o q) body next
+    pub case-yes : c ≡ true → turned bytes p 4 body next Yes o q ≡ caseTurn bytes (state p o q) body next
     unfolding turned caseTurn withRecord byKind
     case-yes y = ask-yes _ _ _ (sym sets ∙ y) ∙ ask-yes _ _ _ few-cases
 

@@ -3,10 +3,10 @@
 use Prim.Native.Nat.{ℕ, _^_, _≤_, _<_}
 use mathlib.Core.Path.{_≡_}
 use mathlib.Core.Bool.{true, _&&_}
-use mathlib.Core.List.{map, flatMap}
+use mathlib.Core.List.{[], _∷_, map, flatMap}
 use native.Mathlib.Nat.{lt-of-lt-of-le}
 use native.Mathlib.Omega.{arith}
-use lib.ListN.{length}
+use lib.ListN.{length, length-append}
 use lib.Bits.{bitAnd}
 use lib.Pow.{pow-mono}
 use borrow.Author.Tests.{ltb-true, lt-ltb, eqb-true, eq-eqb}
@@ -14,7 +14,7 @@ use Rattle.records.proofs.Laws.Tests.{both-true}
 use Rattle.task.specs.Bounds.{inRange}
 use Rattle.task.specs.Facts.{within, consistent}
 use Rattle.task.specs.Instruction.{allowed}
-use Rattle.task.specs.Task.{Action, Preset, Task}
+use Rattle.task.specs.Task.{Action, Preset, Task, withCase}
 use Rattle.task.specs.declared.bounds.Bounds.{Bounds}
 use Rattle.task.specs.declared.facts.Literals.{Literals}
 use Rattle.task.specs.declared.index.Case.{Case}
@@ -23,7 +23,7 @@ use Rattle.task.proofs.Laws.Instruction.{allowed-line}
 use Rattle.task_file.specs.Bytes.{actionPairs}
 use Rattle.task_file.specs.Pairs.{PairFits}
 use Rattle.task_file.specs.WellFormed.{Every, none, also, Once, pairs, bothSets, sets, WellFormed}
-use Rattle.task_file.proofs.Laws.Every.{every-head, every-tail, every-join, every-first, every-last, every-gives, every-both, every-mapped, mapped-every, every-flat, flat-every}
+use Rattle.task_file.proofs.Laws.Every.{every-head, every-tail, every-join, every-first, every-last, every-more, every-gives, every-both, every-mapped, mapped-every, every-flat, flat-every}
 
 -- question 6 on a set and on a pair, as facts about numbers
 module _ (facts : ℕ) where
@@ -134,3 +134,20 @@ module _ (t : Task) where
             (mapped-every (λ (c : Case). c .start) (t .cases) (every-last (flatMap bothSets (pairs t)) starts (w .facts))))
             (mapped-every (λ (c : Case). c .goal) (t .cases) (every-last (flatMap actionPairs (t .actions)) goals good));
       }
+
+-- with a case more that passes, where there are fewer than 32
+pub case-formed : (t : Task) → WellFormed t → (c : Case) → length (t .cases) < 32 → CaseGood (t .bounds .facts) c → WellFormed (withCase t c)
+case-formed t w c few good =
+    let f = formed-parts t w in
+    let more = length-append (t .cases) (c ∷ []) in
+    parts-formed (withCase t c)
+    (record {
+      bounds = f .bounds;
+      few-actions = f .few-actions;
+      few-cases = omega (arith, more, few);
+      actions = f .actions;
+      presets = f .presets;
+      once = f .once;
+      cases = every-more (f .cases) good;
+    })
+    (w .actions .0) (omega (arith, more))

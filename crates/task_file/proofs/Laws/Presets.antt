@@ -4,11 +4,12 @@
 use Prim.Native.Nat.{ℕ, _+_, _*_, _/_, _%_, _≤_}
 use mathlib.Core.Path.{_≡_, sym, ap, _∙_}
 use mathlib.Core.List.{List, [], _∷_, _++_}
+use native.Mathlib.Decide.{ℕ-discrete}
 use lib.ListN.{length, replicate}
 use Rattle.records.specs.Numbers.{byteAt}
 use Rattle.records.proofs.Laws.Numbers.{zero-at}
 use Rattle.task.specs.Instruction.{encode, tripleAt, withTriple}
-use Rattle.task.specs.Program.{lineOffset}
+use Rattle.task.specs.Program.{lineOffset, lineBytes}
 use Rattle.task.specs.Task.{Preset}
 use Rattle.task.specs.declared.bounds.Bounds.{Bounds}
 use Rattle.task.specs.declared.instruction.Instruction.the-variants.{Empty}
@@ -19,7 +20,7 @@ use Rattle.task.proofs.Laws.Program.{lineNumber, line-parts}
 use Rattle.task.proofs.Laws.Instruction.{op-empty}
 use Rattle.task.proofs.Laws.Triple.{put-here, put-other}
 use Rattle.task_file.specs.TaskFile.{HoldsPresets}
-use Rattle.task_file.specs.WellFormed.{Every, none, On}
+use Rattle.task_file.specs.WellFormed.{Every, none, also, On}
 use Rattle.task_file.proofs.Laws.Every.{every-head, every-first, every-last, every-more, every-gives, every-both}
 
 -- the number of a preset's line
@@ -88,3 +89,30 @@ module _ (b : Bounds) where
         each = held .each;
         other = λ j i h none. held .other (lineNumber b j i) (every-gives (λ p g e. g .1 (number-on j i p h (g .0) e)) (every-both lines none));
       }
+
+-- two programs that hold the same presets are the same on each line 0 to n of every procedure
+module _ (b : Bounds) (program other : List ℕ) (j : Proc) (i : Line) where
+  abbrev Same : Type 0
+  Same = lineBytes b program j i ≡ lineBytes b other j i
+
+  -- what a program holds on the line of a preset that is on this line
+  on-line : (held : List ℕ) (p : Preset) → On j i p → lineBytes b held (p .procedure) (p .line) ≡ lineBytes b held j i
+  unfolding lineOffset
+  on-line held p on = rw (on .0, on .1)
+
+  by-line : (l : List Preset) → Every (λ (p : Preset). lineBytes b program (p .procedure) (p .line) ≡ encode (p .instruction)) l
+      → Every (λ (p : Preset). lineBytes b other (p .procedure) (p .line) ≡ encode (p .instruction)) l
+      → (Every (λ (p : Preset). On j i p → ⊥) l → Same) → Same
+  by-line [] none none rest = rest none
+  by-line (p ∷ l) (also e h) (also f k) rest =
+      elim (ℕ-discrete (p .procedure .0) (j .0)) [
+        | yes a ↦
+            elim (ℕ-discrete (p .line .0) (i .0)) [
+              | yes d ↦ sym (on-line program p (a, d)) ∙ e ∙ sym f ∙ on-line other p (a, d)
+              | no n ↦ by-line l h k (λ others. rest (also (λ on. n (on .1)) others))
+            ]
+        | no n ↦ by-line l h k (λ others. rest (also (λ on. n (on .0)) others))
+      ]
+
+  pub holds-same : (l : List Preset) → HoldsPresets b l program → HoldsPresets b l other → i .0 ≤ b .last → Same
+  holds-same l h k le = by-line l (h .each) (k .each) (λ others. h .other j i le others ∙ sym (k .other j i le others))

@@ -10,18 +10,19 @@ use lib.ListN.{length, drop, length-append}
 use borrow.Author.Tests.{ltb-true, eqb-true}
 use Rattle.records.specs.Loop.{Turn, ask}
 use Rattle.records.specs.Numbers.{AreBytes, byteAt, u64At}
+use Rattle.records.specs.Record.{closing}
 use Rattle.records.proofs.Laws.Bytes.{closing-written}
 use Rattle.records.proofs.Laws.Loop.{Keeps}
 use Rattle.records.proofs.Laws.Record.{record-ends}
 use Rattle.records.proofs.Laws.Tests.{both-true}
 use Rattle.task.specs.Bounds.{boundsAt}
-use Rattle.task.specs.Facts.{literalsAt, within, consistent}
+use Rattle.task.specs.Facts.{literalsAt, within, consistent, caseConsistent}
 use Rattle.task.specs.Index.{actionAt}
 use Rattle.task.specs.Instruction.{orEmpty, spelled, decodeFor, encode, tripleAt}
 use Rattle.task.specs.Program.{lineOffset}
 use Rattle.task.specs.Outcome.{withRecord}
 use Rattle.task.specs.Reading.{State, byKind, noLayout, begin, refused, accepted, headerTurn, actionTurn, onPreset, presetTurn, caseTurn, closeTurn, readTask}
-use Rattle.task.specs.Task.{Action, Preset, Task}
+use Rattle.task.specs.Task.{Action, Preset, Task, withCase}
 use Rattle.task.specs.TaskAt.{actionOf, taskAt}
 use Rattle.task.specs.declared.index.Case.{Case}
 use Rattle.task.specs.declared.index.Layout.{Layout}
@@ -44,7 +45,7 @@ use Rattle.task_file.proofs.Laws.Every.{every-more, every-gives, once-m
 use Rattle.task_file.proofs.Laws.Rows.{flat-more}
 use Rattle.task_file.proofs.Laws.Parts.{action-length, pairs-asked, effects-count, action-written, preset-written, case-written, bounds-written}
 use Rattle.task_file.proofs.Laws.Presets.{free-apart, on-number, held-presets}
-use Rattle.task_file.proofs.Laws.SoFar.{SoFar, boundsAlone, withAction, withPreset, withCase, bounds-so-far, action-so-far, preset-so-far, case-so-far, task-there}
+use Rattle.task_file.proofs.Laws.SoFar.{SoFar, boundsAlone, withAction, withPreset, bounds-so-far, action-so-far, preset-so-far, case-so-far, task-there}
 
 -- the records of a task's parts, without the closing one
 recordsOf : Task → List ℕ
@@ -62,6 +63,12 @@ preset-last t p c = rw (c, flat-more presetRecord (t .presets) p) (simp (append-
 case-last : (t : Task) (c : Case) → recordsOf (withCase t c) ≡ recordsOf t ++ caseRecord c
 unfolding recordsOf
 case-last t c = rw (flat-more caseRecord (t .cases) c) (simp append-assoc)
+
+-- so the file of a task with a case added last has the case's record before the closing one
+pub case-added : (t : Task) (c : Case)
+    → (records : List ℕ) × (taskBytes t ≡ records ++ closing) × (taskBytes (withCase t c) ≡ records ++ (caseRecord c ++ closing))
+unfolding taskBytes recordsOf
+case-added t c = (recordsOf t, refl, ap (λ (l : List ℕ). l ++ closing) (case-last t c) ∙ append-assoc (recordsOf t) (caseRecord c) closing)
 
 module _ (bytes : List ℕ) where
   -- the reading has read a task whose parts pass; by the kind of its last record, which parts there may be
@@ -224,7 +231,7 @@ module _ (bytes : List ℕ) where
     preset-kept f r = on-preset-kept f r _ refl
 
     case-kept : Follows (s .progress .last) 4 → There bytes s 4 24 → Kept (caseTurn bytes s (at + 4) (at + 28))
-    unfolding caseTurn withRecord byKind
+    unfolding caseTurn caseConsistent withRecord byKind
     case-kept f r =
         ask-kept _ _ _ _ λ h.
         ask-kept _ _ _ _ λ k.

@@ -16,7 +16,7 @@ use Rattle.task.specs.Instruction.{orEmpty, spelled, encode, tripleAt, withTrip
 use Rattle.task.specs.Program.{lineOffset}
 use Rattle.task.specs.Outcome.{state, withRecord}
 use Rattle.task.specs.Reading.{State, begin, byKind, noLayout}
-use Rattle.task.specs.Task.{Action, Preset, Task}
+use Rattle.task.specs.Task.{Action, Preset, Task, withCase}
 use Rattle.task.specs.TaskAt.{actionOf, presetAt, firstPreset, taskAt}
 use Rattle.task.specs.declared.bounds.Bounds.{Bounds}
 use Rattle.task.specs.declared.index.Case.{Case}
@@ -64,9 +64,6 @@ withAction t a = record { bounds = t .bounds; actions = t .actions ++ (a ∷ [])
 
 abbrev pub withPreset : Task → Preset → Task
 withPreset t p = record { bounds = t .bounds; actions = t .actions; presets = t .presets ++ (p ∷ []); cases = t .cases }
-
-abbrev pub withCase : Task → Case → Task
-withCase t c = record { bounds = t .bounds; actions = t .actions; presets = t .presets; cases = t .cases ++ (c ∷ []) }
 
 -- the state behind a record of a kind, with the arrays as they are then
 abbrev pub stateBehind : List ℕ → State → ℕ → ℕ → List ℕ → List ℕ → State

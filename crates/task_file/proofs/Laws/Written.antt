@@ -3,7 +3,7 @@
 -- Assumes nothing.
 use Prim.Native.Nat.{ℕ, _+_, _*_, _/_, _%_, _≤_, _<_}
 use mathlib.Core.Path.{_≡_, refl, sym, ap, _∙_}
-use mathlib.Core.Bool.{true, _&&_}
+use mathlib.Core.Bool.{true}
 use mathlib.Core.List.{List, [], _∷_, _++_, flatMap, append-nil, append-assoc}
 use native.Mathlib.Nat.{add-assoc}
 use native.Mathlib.Omega.{arith}
@@ -18,13 +18,13 @@ use Rattle.records.proofs.Laws.Loop.{ask-yes}
 use Rattle.records.proofs.Laws.Record.{record-ends}
 use Rattle.records.specs.Numbers.{byteAt, u64At}
 use Rattle.task.specs.Bounds.{inRange}
-use Rattle.task.specs.Facts.{literalsAt, within, consistent, pairsBeforeFault}
+use Rattle.task.specs.Facts.{literalsAt, caseConsistent, pairsBeforeFault}
 use Rattle.task.specs.Instruction.{orEmpty, spelled, decodeFor, tripleAt}
 use Rattle.task.specs.Program.{lineOffset}
 use Rattle.task.specs.Outcome.{withRecord}
 use Rattle.task.specs.Questions.{SETS}
 use Rattle.task.specs.Reading.{State, begin, noLayout, accepted, refused, byKind, mayStand, lengthFits, headerTurn, actionTurn, onPreset, presetTurn, caseTurn, closeTurn, kindTurn, onRecord, turnOf, readTask}
-use Rattle.task.specs.Task.{Action, Preset, Task}
+use Rattle.task.specs.Task.{Action, Preset, Task, withCase}
 use Rattle.task.specs.declared.bounds.Bounds.{Bounds}
 use Rattle.task.specs.declared.index.Case.{Case}
 use Rattle.task.specs.declared.instruction.Decoded.the-variants.{Is}
@@ -43,7 +43,7 @@ use Rattle.task_file.proofs.Laws.Formed.{ActionGood, CaseGood, PresetGo
 use Rattle.task_file.proofs.Laws.Every.{every-gives, every-at, every-first, every-both, once-at}
 use Rattle.task_file.proofs.Laws.Parts.{body-full, action-length, action-found, action-body, action-behind, action-read, preset-found, preset-behind, preset-read, case-found, case-behind, case-read, bounds-found, bounds-behind, bounds-read}
 use Rattle.task_file.proofs.Laws.Presets.{presetNumber, apart-free, number-on}
-use Rattle.task_file.proofs.Laws.SoFar.{SoFar, layoutOf, withAction, withPreset, withCase, stateBehind, actionState, presetState, caseState, bounds-so-far, action-so-far, preset-so-far, case-so-far}
+use Rattle.task_file.proofs.Laws.SoFar.{SoFar, layoutOf, withAction, withPreset, stateBehind, actionState, presetState, caseState, bounds-so-far, action-so-far, preset-so-far, case-so-far}
 
 module _ (bytes : List ℕ) where
   -- a record of a kind that may stand here and has its length: what its kind asks
@@ -174,7 +174,7 @@ module _ (bytes : List ℕ) where
 
     case-goes : (x : Case) (more : List ℕ) → length (t .cases) < 32 → CaseGood F x → a ≤ 4 → 4 ≤ b
         → drop at bytes ≡ caseRecord x ++ more → Goes (withCase t x) 4 5 more
-    unfolding kindTurn byKind caseTurn lengthFits withRecord
+    unfolding kindTurn byKind caseTurn lengthFits withRecord caseConsistent
     case-goes x more few good low high h =
         let next = at + 28 in
         let found = rw (add-assoc at 4 24) at (case-found bytes at x more h) in
@@ -183,7 +183,7 @@ module _ (bytes : List ℕ) where
         let turn = kind-turn s 4 24 found (omega (arith, stage .low)) (omega (arith, stage .high)) refl in
         let counted : ltb (s .progress .index .cases) 32 ≡ true = lt-ltb (s .progress .index .cases) 32 (omega (arith, stage .so-far .cased)) in
         let facts = s .progress .index .bounds .facts in
-        let passed : (within facts (u64At bytes (at + 4)) && consistent facts (literalsAt bytes (at + 4 + 8))) ≡ true =
+        let passed : caseConsistent facts (u64At bytes (at + 4)) (literalsAt bytes (at + 4 + 8)) ≡ true =
         rw (stage .so-far .bounds, read .0, read .1) (simp (good .0, good .1)) in
         record {
           state = caseState bytes s next;
