@@ -16,15 +16,17 @@ extern "C" {
 #define PP_STATIC_ASSERT _Static_assert
 #endif
 
-/* The most bytes that a program has, and the most that a plan has that was accepted or written. */
-enum { PP_MAX_PROGRAM_LEN = 768, PP_MAX_PLAN_LEN = 36868 };
+/* The most bytes that a program has, and the most that a plan has that was accepted or written; and the bytes that one more case adds to a
+ * task. */
+enum { PP_MAX_PROGRAM_LEN = 768, PP_MAX_PLAN_LEN = 36868, PP_CASE_LEN = 28 };
 
 /* The number of an answer: PP_OK, or the first question, in the order of asking, whose answer is no. Beside each question stands what a no
  * says; the value is then the place, and the headings say what it counts. */
 enum pp_question {
     PP_OK = 0,                   /* no question says no */
 
-    /* A task. The place is the offset of the record, for PP_TASK_NOT_ENDED that of the byte behind the closing record. */
+    /* A task. The place is the offset of the record, for PP_TASK_NOT_ENDED that of the byte behind the closing record. From pp_add_case
+     * PP_TASK_FACTS may be about the new case, which is no record yet; the place is then 0, where no record has sets. */
     PP_TASK_RECORD_CUT = 1,      /* a record's head or body is cut off */
     PP_TASK_RECORD_KIND = 2,     /* a record of this kind may not stand here */
     PP_TASK_RECORD_LENGTH = 3,   /* the record's length is not its kind's */
@@ -69,7 +71,12 @@ enum pp_question {
     PP_LINE_EMPTY = 28,          /* writer, pp_step and pp_steps: the run is at an empty line; the place is as for PP_STEP_BOUND */
     PP_PLAN_NO_ROOM = 29,        /* writer: the buffer has no room for the plan; the place is the bytes needed */
     PP_FILE_TOO_LONG = 30,       /* the program check_plan alone: a file has more than 65,536 bytes; the place is 65536 */
-    PP_RUN_IMPOSSIBLE = 31       /* pp_step and pp_steps: the record cannot be a position of the task; the place is 0 */
+    PP_RUN_IMPOSSIBLE = 31,      /* pp_step, pp_steps and pp_add_case: the record cannot be a position of the task; the place is 0 */
+
+    /* pp_add_case. The place is 0. */
+    PP_RUN_FINISHED = 32,        /* the run is finished */
+    PP_CASES_FULL = 33,          /* there are 32 cases already */
+    PP_CASE_NO_ROOM = 34         /* the buffer has no room for the case: fewer than PP_CASE_LEN bytes behind the task */
 };
 
 /* A run record, which the caller keeps. A fresh one has the facts of the first case's start, depth 1 and 0 in every other field. */
@@ -98,9 +105,10 @@ static inline uint32_t pp_steps_number(uint64_t answer) { return (uint32_t)(answ
 static inline uint32_t pp_steps_made(uint64_t answer) { return (uint32_t)(answer >> 32) & 0xffff; }
 static inline uint32_t pp_steps_place(uint64_t answer) { return (uint32_t)answer; }
 
-/* What the caller owes every function: as many bytes of valid memory at each pointer as the length says, and a buffer or record, the last
- * argument, that overlaps none of the others. A pointer may be null where its length is 0. The bytes themselves may be anything. Nothing
- * is kept after the call, and nothing is allocated; calls on several threads do not meet. */
+/* What the caller owes every function: as many bytes of valid memory at each pointer as the length behind it says, and a whole record at
+ * `run`, aligned as the struct is; and that a buffer or record lent for writing, the one pointer without const, overlaps none of the others.
+ * A pointer with a length of 0 may be null; `run` may not. The bytes themselves may be anything. Nothing is kept after the call, and nothing
+ * is allocated; calls on several threads do not meet. */
 
 /* Asks whether the bytes are a task: questions 1 to 9. The value is 0. */
 uint64_t pp_check_task(const uint8_t *task, size_t task_len);
@@ -116,15 +124,23 @@ uint64_t pp_check_plan(const uint8_t *task, size_t task_len, const uint8_t *plan
 uint64_t pp_write_plan(const uint8_t *task, size_t task_len, const uint8_t *program, size_t program_len, uint8_t *plan, size_t plan_len);
 
 /* Runs one instruction of the program: questions 1 to 9, 25 to 27 and 31, then 14, 28 and 19 to 22. The value is 1, and the record has the
- * next position; or it is 0, and the run was finished already. That and a refusal leave the record as it was. `run` is a valid pointer to a
- * record, aligned as the struct is, and never null. */
+ * next position; or it is 0, and the run was finished already. That and a refusal leave the record as it was. */
 uint64_t pp_step(const uint8_t *task, size_t task_len, const uint8_t *program, size_t program_len, pp_run *run);
 
 /* Does what `count` single steps do, and reads task and program once; a count above 4,096 counts as 4,096. Questions 1 to 9, 25 to 27 and
  * 31 come first, even when the count is 0; then 14, 28 and 19 to 22 before each step that is still wanted. It stops early at the finish or
  * at a refusal; of a finished run it makes no step. The record then has the position after the last good step, after a refusal too: here
- * alone, and for the record alone, a refusal may change what was lent. `run` is as for pp_step. */
+ * alone, and for the record alone, a refusal may change what was lent. */
 uint64_t pp_steps(const uint8_t *task, size_t task_len, const uint8_t *program, size_t program_len, uint64_t count, pp_run *run);
+
+/* Adds a case to the task under an open run. The task is the first `task_len` bytes of the buffer, or the whole buffer if it has fewer. The
+ * case is given by the facts that are true at its start, and those that have to be true and to be false at its end. Questions 1 to 9 and 31,
+ * then 32 to 34, then 6 for the new case. On acceptance the value is the task's new length, PP_CASE_LEN more: the case's record stands in
+ * front of the closing one. The buffer's bytes behind the longer task keep their value; a refusal changes none. The record is only read, and
+ * the run goes on with the longer task: one that was reached by steps from the start is where the same steps lead there. The step bound
+ * stays the task's. */
+uint64_t pp_add_case(uint8_t *buffer, size_t buffer_len, size_t task_len, uint64_t start, uint64_t goal_true, uint64_t goal_false,
+                     const pp_run *run);
 
 #ifdef __cplusplus
 }

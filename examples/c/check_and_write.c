@@ -1,11 +1,12 @@
-/* Checks the plan in a folder, prints its program, writes the program back to a plan and runs it, by single steps and by forty in a call.
+/* Checks the plan in a folder, prints its program, writes the program back to a plan and runs it, by single steps and by forty in a call, and
+ * once more with a case added while it runs.
  *
  * Build it from the root of the repository, once `rt staticlib capi` has made the library:
  *
  *     cc -std=c11 -Wall -Wextra -Werror -I include -o target/check_and_write examples/c/check_and_write.c target/staticlib/libcapi.a
  *
  * `target/check_and_write FOLDER` reads task.bin and plan.bin in the folder, samples/double-click if none is named. The exit status is 0 when
- * the plan is accepted, comes back byte for byte and its program runs to the finish in as many steps, both ways.
+ * the plan is accepted, comes back byte for byte and its program runs to the finish in as many steps, both ways, and with the case added too.
  */
 #include "planning_program.h"
 
@@ -57,13 +58,19 @@ static uint64_t number_at(const uint8_t *bytes, size_t len) {
     return number;
 }
 
-/* The facts at the first case's start. The task has passed, so there is a record of kind 4. */
-static uint64_t first_start(const uint8_t *task) {
+/* A case: the facts at its start, and those that have to be true and to be false at its end. */
+typedef struct {
+    uint64_t start, goal_true, goal_false;
+} case_sets;
+
+/* The first case. The task has passed, so there is a record of kind 4. */
+static case_sets first_case(const uint8_t *task) {
     size_t at = 0;
     while (number_at(task + at + 2, 2) != 4) {
         at += 4 + number_at(task + at, 2);
     }
-    return number_at(task + at + 4, 8);
+    case_sets sets = {number_at(task + at + 4, 8), number_at(task + at + 12, 8), number_at(task + at + 20, 8)};
+    return sets;
 }
 
 /* Prints a line's number and what its three bytes op, p and q say. */
@@ -112,7 +119,7 @@ static bool write_back(const file *task, const uint8_t *program, size_t program_
 
 /* A fresh record, at the first case's start. */
 static pp_run first_position(const file *task) {
-    pp_run run = {.facts = first_start(task->bytes), .depth = 1};
+    pp_run run = {.facts = first_case(task->bytes).start, .depth = 1};
     return run;
 }
 
@@ -130,18 +137,42 @@ static bool run_by_steps(const file *task, const uint8_t *program, size_t progra
     return run.steps == steps;
 }
 
-/* The same by forty steps in a call. A call that makes fewer, and is not refused, is at the finish. */
-static bool run_by_forty(const file *task, const uint8_t *program, size_t program_len, uint32_t steps) {
-    pp_run run = first_position(task);
+/* Runs on to the finish by forty steps in a call. A call that makes fewer, and is not refused, is at the finish. */
+static bool finish_by_forty(const char *what, const file *task, const uint8_t *program, size_t program_len, pp_run *run) {
     uint64_t answer;
     do {
-        answer = pp_steps(task->bytes, task->len, program, program_len, 40, &run);
+        answer = pp_steps(task->bytes, task->len, program, program_len, 40, run);
     } while (pp_steps_number(answer) == PP_OK && pp_steps_made(answer) == 40);
-    if (!accepted("by forty steps in a call", pp_steps_number(answer), pp_steps_place(answer))) {
+    if (!accepted(what, pp_steps_number(answer), pp_steps_place(answer))) {
         return false;
     }
-    printf("by forty steps in a call: finished after %u\n", (unsigned)run.steps);
-    return run.steps == steps;
+    printf("%s: finished after %u\n", what, (unsigned)run->steps);
+    return true;
+}
+
+/* Runs the program so from the start, and says whether it finishes with this number of steps. */
+static bool run_by_forty(const file *task, const uint8_t *program, size_t program_len, uint32_t steps) {
+    pp_run run = first_position(task);
+    return finish_by_forty("by forty steps in a call", task, program, program_len, &run) && run.steps == steps;
+}
+
+/* Makes a step, adds the first case once more behind the last one, and goes on with the same record. The new case takes steps too, so the
+ * task gets the greatest step bound before. */
+static bool run_with_late_case(file *task, const uint8_t *program, size_t program_len) {
+    task->bytes[8] = 4096 & 0xff;
+    task->bytes[9] = 4096 >> 8;
+    pp_run run = first_position(task);
+    uint64_t answer = pp_step(task->bytes, task->len, program, program_len, &run);
+    if (!accepted("before the late case", pp_number(answer), pp_value(answer))) {
+        return false;
+    }
+    case_sets late = first_case(task->bytes);
+    answer = pp_add_case(task->bytes, sizeof task->bytes, task->len, late.start, late.goal_true, late.goal_false, &run);
+    if (!accepted("the late case", pp_number(answer), pp_value(answer))) {
+        return false;
+    }
+    task->len = pp_value(answer);
+    return finish_by_forty("with a late case", task, program, program_len, &run);
 }
 
 int main(int count, char **words) {
@@ -163,5 +194,6 @@ int main(int count, char **words) {
     bool same = write_back(&task, program, program_len, &plan);
     bool finished = run_by_steps(&task, program, program_len, pp_value(answer));
     bool finished_too = run_by_forty(&task, program, program_len, pp_value(answer));
-    return same && finished && finished_too ? 0 : 1;
+    bool longer_too = run_with_late_case(&task, program, program_len);
+    return same && finished && finished_too && longer_too ? 0 : 1;
 }

@@ -1,15 +1,20 @@
 //! Before anything is measured: both sides give the answers that the input was made for.
 
-use crate::entry::FORTY;
+use crate::entry::{Entry, FORTY};
 use crate::inputs::Input;
+use crate::late_case::LateCase;
 use crate::position;
 use crate::sides::{Side, LIBRARY, REFERENCE, SIDES};
+use planning_program::CASE_LEN;
 use reference::{Answer, StepsAnswer};
 
 /// Panics where a side answers otherwise.
 pub fn check(name: &str, input: &Input) {
     for side in SIDES {
         check_side(name, input, side);
+    }
+    if input.entries.contains(&Entry::AddCase) {
+        check_late_case(name, input);
     }
     check_run(name, input);
     check_run_by_forty(name, input);
@@ -34,6 +39,22 @@ fn check_side(name: &str, input: &Input, side: &Side) {
     let answer = (side.write_plan)(task, program, &mut written);
     assert_eq!(answer, accepted(*steps), "{about}: writer");
     assert!(written == *plan, "{about}: the writer's plan");
+}
+
+/// Both sides make the task whole again.
+fn check_late_case(name: &str, input: &Input) {
+    for side in SIDES {
+        let mut buffer = input.task.clone();
+        let spare = buffer.len() - CASE_LEN;
+        buffer[spare..].fill(0xff);
+        let given = LateCase::of(input).add(side, &mut buffer, &position::start(input));
+        let answer = Answer {
+            number: 0,
+            value: input.task.len() as u32,
+        };
+        assert_eq!(given, answer, "{name}, {}: late case", side.name);
+        assert!(buffer == input.task, "{name}, {}: the task", side.name);
+    }
 }
 
 /// Both sides' single steps make the whole run alike, and finish it.

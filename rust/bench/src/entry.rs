@@ -1,6 +1,7 @@
 //! The entries, and one call of an entry on an input.
 
 use crate::inputs::Input;
+use crate::late_case::LateCase;
 use crate::position;
 use crate::sides::Side;
 use reference::{Answer, Run, StepsAnswer};
@@ -26,6 +27,8 @@ pub enum Entry {
     OneStep(Op),
     /// One call for forty steps, from the start on.
     Steps40,
+    /// One call that adds the task's last case, at the start of the run on the task without it.
+    AddCase,
 }
 
 /// The calls after which a run by single steps stops: each of them reads the whole task.
@@ -35,12 +38,13 @@ const MOST_CALLS: u32 = 64;
 pub const FORTY: u16 = 40;
 
 impl Entry {
-    pub const EACH: [Entry; 5] = [
+    pub const EACH: [Entry; 6] = [
         Entry::CheckTask,
         Entry::CheckPlan,
         Entry::WritePlan,
         Entry::Step,
         Entry::Steps40,
+        Entry::AddCase,
     ];
 
     pub fn name(self) -> &'static str {
@@ -54,6 +58,7 @@ impl Entry {
             Entry::OneStep(Op::Call) => "step-call",
             Entry::OneStep(Op::End) => "step-end",
             Entry::Steps40 => "steps-40",
+            Entry::AddCase => "add_case",
         }
     }
 
@@ -72,16 +77,18 @@ pub struct Call<'a> {
     entry: Entry,
     input: &'a Input,
     buffer: Vec<u8>,
+    late: LateCase,
     start: Run,
     calls: u32,
 }
 
 impl<'a> Call<'a> {
     pub fn new(side: &'static Side, entry: Entry, input: &'a Input) -> Call<'a> {
-        let filled = match entry {
-            Entry::CheckPlan => input.program.len(),
-            Entry::WritePlan => input.plan.len(),
-            _ => 0,
+        let buffer = match entry {
+            Entry::CheckPlan => vec![0; input.program.len()],
+            Entry::WritePlan => vec![0; input.plan.len()],
+            Entry::AddCase => input.task.clone(),
+            _ => Vec::new(),
         };
         let start = match entry {
             Entry::OneStep(op) => position::first_with(op, input),
@@ -91,7 +98,8 @@ impl<'a> Call<'a> {
             side,
             entry,
             input,
-            buffer: vec![0; filled],
+            buffer,
+            late: LateCase::of(input),
             start,
             calls: entry.calls(input),
         }
@@ -125,6 +133,7 @@ pub fn measured(call: &mut Call) -> Answer {
                 value: made.into(),
             }
         }
+        Entry::AddCase => call.late.add(side, buffer, &call.start),
     };
     black_box(answer)
 }

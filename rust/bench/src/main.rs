@@ -1,7 +1,8 @@
 //! The proved library beside the plain Rust one: instructions and time of a call of each entry.
 //!
 //! `bench` measures all. `bench count-all [FILTER]` counts instructions alone, in the rows whose `INPUT/ENTRY` contains the filter.
-//! A row of `step` is the mean over the first 64 calls of a run, or all if there are fewer; one of `steps-40` is one call for forty steps.
+//! A row of `step` is the mean over the first 64 calls of a run, or all if there are fewer; one of `steps-40` is one call for forty steps; one
+//! of `add_case` is one call that adds the task's last case to the task without it.
 
 mod agree;
 mod clock;
@@ -9,6 +10,7 @@ mod count;
 mod entry;
 mod growth;
 mod inputs;
+mod late_case;
 mod numbers;
 mod position;
 mod report;

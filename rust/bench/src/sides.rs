@@ -12,6 +12,7 @@ pub struct Side {
     pub write_plan: fn(&[u8], &[u8], &mut [u8]) -> Answer,
     pub step: fn(&[u8], &[u8], &mut Run) -> Answer,
     pub steps: fn(&[u8], &[u8], u64, &mut Run) -> StepsAnswer,
+    pub add_case: fn(&mut [u8], usize, [u64; 3], &Run) -> Answer,
 }
 
 /// The proved library.
@@ -22,6 +23,7 @@ pub static LIBRARY: Side = Side {
     write_plan: library::write_plan,
     step: library::step,
     steps: library::steps,
+    add_case: library::add_case,
 };
 
 /// The plain Rust implementation.
@@ -32,6 +34,7 @@ pub static REFERENCE: Side = Side {
     write_plan: plain::write_plan,
     step: plain::step,
     steps: plain::steps,
+    add_case: plain::add_case,
 };
 
 pub static SIDES: [&Side; 2] = [&LIBRARY, &REFERENCE];

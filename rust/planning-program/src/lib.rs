@@ -3,8 +3,8 @@
 //! A *task* names facts, actions and cases, each case with a start and a goal. A *program* is numbered lines that do an action, jump on a
 //! fact, call a procedure or end it; a *plan* writes such a program line by line and runs it on every case. A [`Task`] says whether a plan
 //! does so, and which program it wrote; it runs a program and writes its plan; and a [`Run`] runs a program by single steps, or by many in a
-//! call. Each no is a [`Refusal`]: the number of the first question whose answer is no, and its place. A no to many steps is a
-//! [`StepsRefusal`], which says how many were made before it.
+//! call, and lets a case be added to its task meanwhile. Each no is a [`Refusal`]: the number of the first question whose answer is no, and
+//! its place. A no to many steps is a [`StepsRefusal`], which says how many were made before it.
 //!
 //! ```
 //! use planning_program::{Progress, Refusal, Run, Task};
@@ -30,6 +30,7 @@
 #![deny(unsafe_code)]
 #![warn(missing_docs)]
 
+mod late_case;
 pub mod model;
 #[allow(unsafe_code)]
 pub mod raw;
@@ -38,6 +39,7 @@ mod refusal;
 mod run;
 mod task;
 
+pub use late_case::{Goal, CASE_LEN};
 pub use refusal::{Refusal, StepsRefusal};
 pub use run::{Progress, Run};
 pub use task::{plan_len, CheckedPlan, Task, MAX_PLAN_LEN, MAX_PROGRAM_LEN};

@@ -124,6 +124,32 @@ pub fn steps(task: &[u8], program: &[u8], count: u64, run: &mut Run) -> StepsAns
     })
 }
 
+/// Adds a case to the task in the first `task_len` bytes of `buffer`, or in all of them if there are fewer, under an open run. The value is
+/// the task's new length.
+#[inline]
+pub fn add_case(
+    buffer: &mut [u8],
+    task_len: usize,
+    start: u64,
+    goal_true: u64,
+    goal_false: u64,
+    run: &Run,
+) -> Answer {
+    // SAFETY: the pointer and the first length are those of a live slice, borrowed for the entry alone, which so does not overlap the record;
+    // that one is aligned, has all its bytes and is only read.
+    Answer::unpacked(unsafe {
+        pp_add_case(
+            buffer.as_mut_ptr(),
+            buffer.len(),
+            task_len,
+            start,
+            goal_true,
+            goal_false,
+            run,
+        )
+    })
+}
+
 /// What the checker and the writer have in common: two slices that are read and a buffer that is filled.
 type Entry = unsafe extern "C" fn(*const u8, usize, *const u8, usize, *mut u8, usize) -> u64;
 
@@ -187,6 +213,18 @@ extern "C" {
         program_len: usize,
         count: u64,
         run: *mut Run,
+    ) -> u64;
+
+    /// See [`add_case`]. The caller owes `buffer_len` bytes at `buffer`, where any pointer serves a length of 0, and an aligned record apart
+    /// from them; any `task_len` and any sets will do.
+    pub fn pp_add_case(
+        buffer: *mut u8,
+        buffer_len: usize,
+        task_len: usize,
+        start: u64,
+        goal_true: u64,
+        goal_false: u64,
+        run: *const Run,
     ) -> u64;
 }
 

@@ -9,7 +9,8 @@ use std::fmt;
 ///
 /// `docs/FORMATS.md` has the questions. What the place counts is the question's matter: a byte of the file for most, the steps made for a
 /// program that is run, the bytes needed for 29. Questions 14 and 19 to 22 are asked of a plan's record, where the place is its offset, and
-/// of a program's next step, where it is the steps made before.
+/// of a program's next step, where it is the steps made before. Question 6 is asked of a task's record, where the place is its offset, and
+/// of a case that is to be added, where it is 0.
 ///
 /// ```
 /// use planning_program::Refusal;
@@ -23,7 +24,7 @@ use std::fmt;
 /// ```
 #[derive(Clone, Copy, Debug, PartialEq, Eq, Hash)]
 pub struct Refusal {
-    /// The question's number, 1 to 31.
+    /// The question's number, 1 to 34.
     pub question: u8,
     /// Its place.
     pub place: u32,
@@ -34,6 +35,8 @@ pub struct Refusal {
 enum Place {
     /// The offset in the task file.
     Task,
+    /// The offset in the task file; or 0, where no record has sets, for the case that is to be added.
+    TaskOrCase,
     /// The offset in the plan file.
     Plan,
     /// The offset in the program.
@@ -48,15 +51,15 @@ enum Place {
     Nothing,
 }
 
-/// The questions 1 to 31 in order: what the place counts, and what a no says.
-const QUESTIONS: [(Place, &str); 31] = [
+/// The questions 1 to 34 in order: what the place counts, and what a no says.
+const QUESTIONS: [(Place, &str); 34] = [
     (Place::Task, "a record's head or body is cut off"),
     (Place::Task, "a record of this kind may not stand here"),
     (Place::Task, "the record's length is not its kind's"),
     (Place::Task, "there are more than 64 actions or 32 cases"),
     (Place::Task, "a bound is out of its range"),
     (
-        Place::Task,
+        Place::TaskOrCase,
         "a set has a fact beyond the task's, or a pair names a fact twice",
     ),
     (
@@ -117,6 +120,9 @@ const QUESTIONS: [(Place, &str); 31] = [
         Place::Nothing,
         "the run's record cannot be a position of the task",
     ),
+    (Place::Nothing, "the run is finished"),
+    (Place::Nothing, "there are 32 cases already"),
+    (Place::Nothing, "the buffer has no room for the case"),
 ];
 
 impl Refusal {
@@ -138,7 +144,8 @@ impl fmt::Display for Refusal {
         let s = plural(*place);
         write!(f, "question {question}")?;
         match self.row().map(|row| row.0) {
-            Some(Place::Task) => write!(f, " at byte {place} of the task")?,
+            Some(Place::TaskOrCase) if *place == 0 => write!(f, " of the new case")?,
+            Some(Place::Task | Place::TaskOrCase) => write!(f, " at byte {place} of the task")?,
             Some(Place::Plan) => write!(f, " at byte {place} of the plan")?,
             Some(Place::Program) => write!(f, " at byte {place} of the program")?,
             Some(Place::Steps) => write!(f, " after {place} step{s}")?,
@@ -199,7 +206,7 @@ fn plural(number: u32) -> &'static str {
 
 /// The value of an answer, or the refusal.
 pub(crate) fn value(answer: Answer) -> Result<u32, Refusal> {
-    match u8::try_from(answer.number).expect("a question's number is at most 31") {
+    match u8::try_from(answer.number).expect("a question's number is at most 34") {
         0 => Ok(answer.value),
         question => Err(Refusal {
             question,
@@ -236,6 +243,8 @@ mod tests {
     fn place_in_words() {
         for (question, place, start) in [
             (1, 62, "question 1 at byte 62 of the task: "),
+            (6, 10, "question 6 at byte 10 of the task: "),
+            (6, 0, "question 6 of the new case: "),
             (9, 122, "question 9 at byte 122 of the task: "),
             (10, 0, "question 10: "),
             (11, 0, "question 11 at byte 0 of the plan: "),
@@ -251,6 +260,7 @@ mod tests {
             (29, 49, "question 29, 49 bytes needed: "),
             (30, 65536, "question 30: "),
             (31, 0, "question 31: "),
+            (34, 0, "question 34: "),
         ] {
             let shown = shown(question, place);
             assert!(shown.starts_with(start), "{shown}");
@@ -283,6 +293,9 @@ mod tests {
             (22, "goal"),
             (27, "preset line"),
             (31, "position"),
+            (32, "finished"),
+            (33, "32 cases"),
+            (34, "room for the case"),
         ] {
             let shown = shown(question, 0);
             assert!(shown.contains(words), "{shown}");
@@ -291,7 +304,7 @@ mod tests {
 
     #[test]
     fn numbers_without_a_question() {
-        for question in [0, 32, 255] {
+        for question in [0, 35, 255] {
             let refusal = Refusal { question, place: 7 };
             assert_eq!(refusal.reason(), "there is no such question");
             assert_eq!(

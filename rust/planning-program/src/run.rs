@@ -138,8 +138,8 @@ impl Run {
     }
 }
 
-/// A run from a stored record. Any record will do: whether it can be a position of a task is asked by [`Run::step`] and [`Run::steps`], as
-/// question 31.
+/// A run from a stored record. Any record will do: whether it can be a position of a task is asked by [`Run::step`], [`Run::steps`] and
+/// [`Run::add_case`], as question 31.
 impl From<raw::Run> for Run {
     fn from(record: raw::Run) -> Run {
         Run { record }

@@ -1,12 +1,13 @@
 //! What the library touches of the memory that it is lent: nothing outside the given lengths, nothing at all when it refuses, and the first
-//! bytes of the buffer alone when it accepts. A record that was moved on by several steps is the one thing that a refusal leaves changed.
+//! bytes of the buffer alone when it accepts; for a late case those from the closing record on. A record that was moved on by several steps is
+//! the one thing that a refusal leaves changed.
 
 mod requests;
 
 use planning_program::raw::{self, Answer, StepsAnswer};
 use planning_program::{plan_len, Run, Task};
 use requests::{of_kind, shown_steps_with_run, shown_with_buffer, shown_with_run, Vector};
-use std::ptr::{null, null_mut};
+use std::ptr::{from_mut, null, null_mut};
 
 /// An entry that reads two slices and fills a buffer.
 type Filling = fn(&[u8], &[u8], &mut [u8]) -> Answer;
@@ -17,6 +18,13 @@ type Moving = fn(&Vector, &[u8], &[u8], &mut raw::Run) -> (String, bool);
 const TASK: &[u8] = include_bytes!("../../../samples/double-click/task.bin");
 const PLAN: &[u8] = include_bytes!("../../../samples/double-click/plan.bin");
 const PROGRAM: &[u8] = &[2, 2, 0, 1, 0, 0, 4, 0, 0];
+
+/// A case for that task, like its first one: start, and the facts that its goal wants true and wants false.
+const CASE: [u64; 3] = [1, 2, 1];
+
+/// What that case puts in place of the closing record.
+const CASE_AND_CLOSING: &[u8; 32] =
+    b"\x18\0\x04\0\x01\0\0\0\0\0\0\0\x02\0\0\0\0\0\0\0\x01\0\0\0\0\0\0\0\0\0\x05\0";
 
 /// Where the records of that task and of that plan start, after docs/FORMATS.md.
 const TASK_RECORDS: [usize; 5] = [0, 10, 62, 90, 118];
@@ -149,6 +157,84 @@ fn steps_between_guards() {
     });
 }
 
+/// The entry for a late case. Its pointer to the record could be written through, so that a write would be seen.
+fn add_case(buffer: &mut [u8], task_len: usize, sets: [u64; 3], run: &mut raw::Run) -> Answer {
+    let [start, goal_true, goal_false] = sets;
+    let run = from_mut(run).cast_const();
+    // SAFETY: the pointer and the first length are those of a live slice, and both borrows are for the entry alone.
+    Answer::unpacked(unsafe {
+        raw::pp_add_case(
+            buffer.as_mut_ptr(),
+            buffer.len(),
+            task_len,
+            start,
+            goal_true,
+            goal_false,
+            run,
+        )
+    })
+}
+
+#[test]
+fn late_cases_between_guards() {
+    for (v, guard) in guarded(&of_kind("late")) {
+        let mut buffer = Guarded::new(&v.task(), guard);
+        let mut lent = GuardedRun::new(v.run(), guard);
+        let answer = add_case(buffer.bytes_mut(), v.task_len(), v.sets(), &mut lent.run);
+        assert_eq!(shown_with_buffer(answer, buffer.bytes()), v.expected);
+        let mut expected = v.task();
+        if answer.number == 0 {
+            let end = answer.value as usize;
+            let filled = end - CASE_AND_CLOSING.len()..end;
+            expected[filled.clone()].copy_from_slice(&buffer.bytes()[filled]);
+        }
+        assert_eq!(buffer, Guarded::new(&expected, guard), "line {}", v.line);
+        assert_eq!(lent, GuardedRun::new(v.run(), guard), "line {}", v.line);
+    }
+}
+
+/// Lends a task with so many bytes behind it, and asks for the case with this length of the task. An acceptance changes what it has to and no
+/// more, and a refusal nothing.
+#[track_caller]
+fn late_case_gets(task: &[u8], spare: usize, task_len: usize, expected: Answer) {
+    for guard in GUARDS {
+        let before = [task, &vec![!guard; spare]].concat();
+        let mut buffer = Guarded::new(&before, guard);
+        let mut lent = GuardedRun::new(fresh(), guard);
+        let answer = add_case(buffer.bytes_mut(), task_len, CASE, &mut lent.run);
+        assert_eq!(answer, expected, "{spare} bytes to spare");
+        let mut after = before;
+        if answer.number == 0 {
+            after[task.len() - 4..][..32].copy_from_slice(CASE_AND_CLOSING);
+        }
+        assert_eq!(buffer, Guarded::new(&after, guard), "{spare} to spare");
+        assert_eq!(lent, GuardedRun::new(fresh(), guard), "{spare} to spare");
+    }
+}
+
+#[test]
+fn task_buffers_of_each_length() {
+    for spare in 0..28 {
+        late_case_gets(TASK, spare, TASK.len(), refused(34, 0));
+    }
+    for spare in 28..=64 {
+        late_case_gets(TASK, spare, TASK.len(), accepted(150));
+    }
+}
+
+/// A length above the buffer's is the buffer's, so nothing is to spare then.
+#[test]
+fn each_length_of_the_task_in_its_buffer() {
+    for len in 0..TASK.len() {
+        let answer = refused(1, cut_at(&TASK_RECORDS, len));
+        late_case_gets(TASK, 28, len, answer);
+    }
+    for len in (TASK.len() + 1..=TASK.len() + 30).chain([usize::MAX]) {
+        late_case_gets(TASK, 28, len, refused(9, 122));
+        late_case_gets(TASK, 0, len, refused(34, 0));
+    }
+}
+
 /// Lends a buffer of each length up to twice the bytes that are due. One that is too short gets the refusal and keeps its bytes.
 fn lend_each_length(entry: Filling, other: &[u8], due: &[u8], too_short: Answer) {
     for (len, guard) in guarded(0..=2 * due.len()) {
@@ -215,6 +301,9 @@ fn task_refused(task: &[u8], answer: Answer) {
     filling_refused(raw::check_plan, task, PLAN, answer);
     filling_refused(raw::write_plan, task, PROGRAM, answer);
     step_refused(task, PROGRAM, answer);
+    for spare in [0, 28] {
+        late_case_gets(task, spare, task.len(), answer);
+    }
 }
 
 /// Where a file with these records is cut off when it has so many bytes.
@@ -276,6 +365,9 @@ fn null_pointers() {
             raw::pp_write_plan(task, task_len, program, program_len, null_mut(), 0),
             raw::pp_step(null(), 0, program, program_len, &mut run),
             raw::pp_step(task, task_len, null(), 0, &mut run),
+            raw::pp_add_case(null_mut(), 0, 0, 1, 2, 1, &run),
+            raw::pp_add_case(null_mut(), 0, task_len, 1, 2, 1, &run),
+            raw::pp_add_case(null_mut(), 0, usize::MAX, 1, 2, 1, &run),
         ]
     };
     let answers = packed.map(Answer::unpacked);
@@ -288,7 +380,8 @@ fn null_pointers() {
         answers[4..7],
         [refused(1, 0), refused(25, 0), refused(29, 49)]
     );
-    assert_eq!(answers[7..], [refused(1, 0), refused(25, 0)]);
+    assert_eq!(answers[7..9], [refused(1, 0), refused(25, 0)]);
+    assert_eq!(answers[9..], [refused(1, 0); 3]);
     assert_eq!((buffer, run), ([0xee; 64], fresh()));
 }
 

@@ -1,11 +1,12 @@
 //! The proved library beside `reference`, which was written from docs/FORMATS.md and shares no code with it.
 //!
-//! Both get the same 200,000 requests of all six kinds, made from a seed: sound ones, and damaged ones that aim at every question. The
+//! Both get the same 250,000 requests of all seven kinds, made from a seed: sound ones, and damaged ones that aim at every question. The
 //! answers must have the same number, value and steps made, and leave the same bytes in the lent buffer, or the same fields in the run
 //! record, after refusals and beyond what is filled too. A call for a number of steps must give what as many single steps of the library
-//! give. The pairs of an action before the first that fails are counted by the reference, and by the library's verdicts on tasks. A
-//! difference is shown with the seed, the request as a line of vectors/README.md, and both outcomes. Every number has to come up, or the
-//! test fails.
+//! give. The pairs of an action before the first that fails are counted by the reference, and by the library's verdicts on tasks. A task that
+//! a late case was added to must pass; and where that was done under a position of a real run, the same steps must lead there in the longer
+//! task. A difference is shown with the seed, the request as a line of vectors/README.md, and both outcomes. Every number has to come up, or
+//! the test fails.
 //!
 //! With another seed or more requests, and with the table of answers:
 //!
@@ -19,6 +20,7 @@ mod differential {
     mod damage;
     mod entries;
     mod instructions;
+    mod late_cases;
     #[path = "../pairs/mod.rs"]
     mod pairs;
     mod plan_damage;
@@ -44,8 +46,8 @@ use differential::caller::Caller;
 use differential::round::round;
 
 const SEED: u64 = 20_250_711;
-const LEAST_REQUESTS: usize = 200_000;
-/// How often each of 1 to 29 and 31 has to come up.
+const LEAST_REQUESTS: usize = 250_000;
+/// How often each of 1 to 29 and 31 to 34 has to come up.
 const LEAST_REFUSALS: usize = 50;
 /// How often 0 has to come up for each kind of request.
 const LEAST_ACCEPTED: usize = 10_000;
@@ -53,6 +55,8 @@ const LEAST_ACCEPTED: usize = 10_000;
 const LEAST_FAULTS_OF_PAIRS: usize = 1_000;
 /// How often each of their questions has to come up for the single step, and for a number of steps.
 const LEAST_REFUSALS_OF_STEPS: usize = 20;
+/// How often each question of a task has to come up for a late case, and how often each of its own.
+const LEAST_REFUSALS_OF_LATE_CASES: [usize; 2] = [20, 500];
 
 #[test]
 fn library_and_reference_agree() {
@@ -70,6 +74,10 @@ fn library_and_reference_agree() {
     caller
         .tally()
         .assert_least_of_steps(LEAST_REFUSALS_OF_STEPS);
+    let [of_tasks, of_its_own] = LEAST_REFUSALS_OF_LATE_CASES;
+    caller
+        .tally()
+        .assert_least_of_late_cases(of_tasks, of_its_own);
 }
 
 /// A number from the environment, if it is set.

@@ -1,4 +1,4 @@
-//! The agreed answers of vectors/level-02.txt, asked of the library's entries, of the wrapper and of the program `check_plan`; and runs by
+//! The agreed answers of vectors/level-03.txt, asked of the library's entries, of the wrapper and of the program `check_plan`; and runs by
 //! single steps beside the plans that they should follow.
 
 mod pairs;
@@ -6,7 +6,7 @@ mod requests;
 
 use pairs::pairs_before_fault;
 use planning_program::raw::{self, Answer, StepsAnswer};
-use planning_program::{Progress, Refusal, Run, StepsRefusal, Task};
+use planning_program::{Goal, Progress, Refusal, Run, StepsRefusal, Task};
 use requests::words::shown;
 use requests::{number, of_kind, shown_steps_with_run, shown_with_buffer, shown_with_run, Vector};
 use std::path::{Path, PathBuf};
@@ -168,6 +168,25 @@ fn steps() {
 fn pairs_of_actions() {
     agree(&of_kind("pairs"), |v| {
         pairs_before_fault(number(v.words[1]), &v.other()).to_string()
+    });
+}
+
+#[test]
+fn late_cases() {
+    agree(&of_kind("late"), |v| {
+        let (mut buffer, [start, goal_true, goal_false]) = (v.task(), v.sets());
+        let run = &v.run();
+        let answer = raw::add_case(&mut buffer, v.task_len(), start, goal_true, goal_false, run);
+        shown_with_buffer(answer, &buffer)
+    });
+    agree(&of_kind("late"), |v| {
+        let (mut buffer, [start, true_facts, false_facts]) = (v.task(), v.sets());
+        let goal = Goal {
+            true_facts,
+            false_facts,
+        };
+        let result = Run::from(v.run()).add_case(&mut buffer, v.task_len(), start, goal);
+        shown_with_buffer(answer_of(result), &buffer)
     });
 }
 

@@ -9,6 +9,17 @@ pub(crate) const CLOSING: u16 = 5;
 pub(crate) const WRITE: u16 = 16;
 pub(crate) const REPEAT: u16 = 17;
 
+pub(crate) const HEAD_BYTES: usize = 4;
+/// A closing record is a head alone.
+pub(crate) const CLOSING_BYTES: usize = HEAD_BYTES;
+
+/// The first bytes of a record whose body has this length.
+pub(crate) fn head(length: u16, kind: u16) -> [u8; HEAD_BYTES] {
+    let [length_low, length_high] = length.to_le_bytes();
+    let [kind_low, kind_high] = kind.to_le_bytes();
+    [length_low, length_high, kind_low, kind_high]
+}
+
 pub(crate) struct Record<'a> {
     pub kind: u16,
     pub body: &'a [u8],
@@ -43,7 +54,7 @@ impl<'a> Records<'a> {
         let length = usize::from(u16::from_le_bytes([length_low, length_high]));
         let (body, rest) = rest.split_at_checked(length)?;
         self.rest = rest;
-        self.offset += 4 + length;
+        self.offset += HEAD_BYTES + length;
         Some(Record {
             kind: u16::from_le_bytes([kind_low, kind_high]),
             body,

@@ -15,7 +15,8 @@ pub(crate) const MAX_LINES: usize = 32;
 pub(crate) const MAX_FRAMES: usize = 16;
 pub(crate) const MAX_STEPS: usize = 4096;
 const MAX_ACTIONS: usize = 64;
-const MAX_CASES: usize = 32;
+pub(crate) const MAX_CASES: usize = 32;
+pub(crate) const CASE_BYTES: usize = 24;
 
 pub fn check_task(task: &[u8]) -> Answer {
     Task::empty().read(task).map(|()| 0).into()
@@ -37,7 +38,7 @@ impl Case {
         })
     }
 
-    fn well_formed(&self, known: Facts) -> bool {
+    pub fn well_formed(&self, known: Facts) -> bool {
         self.start & !known == 0 && self.goal.well_formed(known)
     }
 }

@@ -4,12 +4,11 @@
 use crate::answer::{at, refuse, Answer, Refusal};
 use crate::instruction::Instruction;
 use crate::program::{frame, line_number, Program};
-use crate::records::{CLOSING, REPEAT, WRITE};
+use crate::records::{head, CLOSING, CLOSING_BYTES, REPEAT, WRITE};
 use crate::run::{Frame, Run};
 use crate::task::{Task, MAX_STEPS};
 
 const STEP_BYTES: usize = 9;
-const CLOSING_BYTES: usize = 4;
 
 pub fn write_plan(task: &[u8], program: &[u8], plan: &mut [u8]) -> Answer {
     write(task, program, plan).into()
@@ -59,10 +58,4 @@ fn step_record(kind: u16, frame: Frame, instruction: Instruction) -> [u8; STEP_B
     let [procedure, line] = frame;
     let [op, p, q] = instruction.encode();
     [length, zero, kind, high, procedure, line, op, p, q]
-}
-
-fn head(length: u16, kind: u16) -> [u8; 4] {
-    let [length_low, length_high] = length.to_le_bytes();
-    let [kind_low, kind_high] = kind.to_le_bytes();
-    [length_low, length_high, kind_low, kind_high]
 }

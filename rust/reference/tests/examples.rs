@@ -1,14 +1,13 @@
 //! The worked examples of the double-click task, actions' pairs, the single step at its step bound, and numbers of steps.
 //! Buffers are full of a mark, so that every byte kept or filled shows.
 
+mod double_click;
+
+use double_click::{answer, open, positions, sets, DoubleClick, MARK, PROGRAM, TASK};
 use reference::{
-    check_plan, check_task, pairs_before_fault, print_check, step, steps, write_plan, Answer, Run,
+    check_plan, check_task, pairs_before_fault, print_check, step, steps, write_plan, Run,
     StepsAnswer,
 };
-
-const MARK: u8 = 0xa5;
-
-const PROGRAM: [u8; 9] = [2, 2, 0, 1, 0, 0, 4, 0, 0];
 
 const PLAN: [u8; 49] = [
     5, 0, 16, 0, 0, 0, 2, 2, 0, //
@@ -18,25 +17,6 @@ const PLAN: [u8; 49] = [
     5, 0, 17, 0, 0, 2, 4, 0, 0, //
     0, 0, 5, 0,
 ];
-
-/// The task, with the parts that the examples vary.
-struct DoubleClick {
-    facts: u8,
-    last_line: u8,
-    step_bound: u16,
-    actions: usize,
-    more_effects: &'static [[u64; 4]],
-    first_start: u64,
-}
-
-const TASK: DoubleClick = DoubleClick {
-    facts: 2,
-    last_line: 2,
-    step_bound: 5,
-    actions: 1,
-    more_effects: &[],
-    first_start: 1,
-};
 
 const FOUR_STEPS: DoubleClick = DoubleClick {
     step_bound: 4,
@@ -53,37 +33,6 @@ const CLASH: DoubleClick = DoubleClick {
     more_effects: &[[0, 0, 1, 0]],
     ..TASK
 };
-
-impl DoubleClick {
-    fn bytes(&self) -> Vec<u8> {
-        let mut bounds = vec![self.facts, 1, self.last_line, 1];
-        bounds.extend(self.step_bound.to_le_bytes());
-        let more_effects = self.more_effects.iter().flatten().copied();
-        let action: Vec<u64> = [1, 0, 0, 0, 2, 1].into_iter().chain(more_effects).collect();
-        let mut file = record(1, &bounds);
-        for _ in 0..self.actions {
-            file.extend(record(2, &sets(&action)));
-        }
-        for start in [self.first_start, 2] {
-            file.extend(record(4, &sets(&[start, 2, 1])));
-        }
-        file.extend(record(5, &[]));
-        file
-    }
-}
-
-fn record(kind: u8, body: &[u8]) -> Vec<u8> {
-    let length = u8::try_from(body.len()).expect("a short record");
-    [&[length, 0, kind, 0], body].concat()
-}
-
-fn sets(sets: &[u64]) -> Vec<u8> {
-    sets.iter().flat_map(|set| set.to_le_bytes()).collect()
-}
-
-fn answer(number: u32, value: u32) -> Answer {
-    Answer { number, value }
-}
 
 /// The plan with its record at this offset replaced by these bytes.
 fn plan_with(offset: usize, new: &[u8]) -> Vec<u8> {
@@ -252,35 +201,6 @@ fn step_bound_holds_for_a_single_step() {
     let mut last = open;
     assert_eq!(step(&task, &PROGRAM, &mut last), answer(0, 1));
     assert_eq!((last.steps, last.frames[0]), (5, [0, 1]));
-}
-
-/// A record with one frame, at this line of procedure 0.
-fn open(case: u8, facts: u64, line: u8, steps: u16) -> Run {
-    let mut frames = [[0, 0]; 16];
-    frames[0] = [0, line];
-    Run {
-        facts,
-        steps,
-        case,
-        depth: 1,
-        frames,
-    }
-}
-
-/// The records of the task's run: goto, act and end, then goto and end.
-fn positions() -> [Run; 6] {
-    let finished = Run {
-        depth: 0,
-        ..open(2, 2, 0, 5)
-    };
-    [
-        open(0, 1, 0, 0),
-        open(0, 1, 1, 1),
-        open(0, 2, 2, 2),
-        open(1, 2, 0, 3),
-        open(1, 2, 2, 4),
-        finished,
-    ]
 }
 
 /// A caller who asks for steps.

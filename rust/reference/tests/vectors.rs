@@ -1,17 +1,23 @@
-//! Runs every request of vectors/level-02.txt and compares with the agreed answer.
+//! Runs every request of vectors/level-03.txt and compares with the agreed answer.
 //! Its README says how a line is written.
 
 use reference::{
-    check_plan, check_task, pairs_before_fault, print_check, step, steps, write_plan, Answer, Run,
+    add_case, check_plan, check_task, pairs_before_fault, print_check, step, steps, write_plan,
+    Answer, Run,
 };
 use std::collections::BTreeMap;
 use std::fmt::Display;
+use std::str::FromStr;
 
-const FILE: &str = concat!(env!("CARGO_MANIFEST_DIR"), "/../../vectors/level-02.txt");
+const FILE: &str = concat!(env!("CARGO_MANIFEST_DIR"), "/../../vectors/level-03.txt");
+
+const KINDS: [&str; 8] = [
+    "task", "check", "write", "step", "steps", "pairs", "late", "print",
+];
 
 #[test]
 fn all_vectors_agree() {
-    let text = std::fs::read_to_string(FILE).expect("vectors/level-02.txt is there");
+    let text = std::fs::read_to_string(FILE).expect("vectors/level-03.txt is there");
     let lines: Vec<&str> = text.lines().collect();
     let mut agreed: BTreeMap<&str, usize> = BTreeMap::new();
     let mut differences = Vec::new();
@@ -32,7 +38,7 @@ fn all_vectors_agree() {
         println!("{kind}: {count} agreed");
     }
     assert!(differences.is_empty(), "{}", differences.join("\n"));
-    for kind in ["task", "check", "write", "step", "steps", "pairs", "print"] {
+    for kind in KINDS {
         assert!(agreed.contains_key(kind), "no {kind} line");
     }
 }
@@ -58,15 +64,20 @@ fn answer(request: &str) -> String {
             format!("{} {}", shown(answer), shown_run(&run))
         }
         "steps" => {
-            let count = word(request, 3).parse().expect("a count");
+            let count = number(request, 3);
             let mut run = run(request, 4);
             let answer = steps(&task(), &file(2), count, &mut run);
             let numbers = format!("{} {} {}", answer.number, answer.place, answer.made);
             format!("{numbers} {}", shown_run(&run))
         }
-        "pairs" => {
-            let facts = word(request, 1).parse().expect("a number of facts");
-            pairs_before_fault(facts, &file(2)).to_string()
+        "pairs" => pairs_before_fault(number(request, 1), &file(2)).to_string(),
+        "late" => {
+            let mut buffer = file(1);
+            let [start, goal_true, goal_false] = [3, 4, 5].map(|index| number(request, index));
+            let run = run(request, 6);
+            let task_len = number(request, 2);
+            let answer = add_case(&mut buffer, task_len, start, goal_true, goal_false, &run);
+            format!("{} {}", shown(answer), hex(&buffer))
         }
         "print" => print_check(&task(), &file(2)).replace('\n', "|"),
         other => panic!("unknown request {other}"),
@@ -75,6 +86,11 @@ fn answer(request: &str) -> String {
 
 fn word(request: &str, index: usize) -> &str {
     request.split(' ').nth(index).expect("one more word")
+}
+
+fn number<T: FromStr>(request: &str, index: usize) -> T {
+    let number = word(request, index).parse();
+    number.ok().expect("a number that fits")
 }
 
 fn shown(answer: Answer) -> String {

@@ -38,6 +38,17 @@ pub fn steps(task: &[u8], program: &[u8], count: u64, run: &mut Run) -> StepsAns
     }
 }
 
+#[inline(never)]
+pub fn add_case(buffer: &mut [u8], task_len: usize, case: [u64; 3], run: &Run) -> Answer {
+    let [start, goal_true, goal_false] = case;
+    let run: *const Run = run;
+    // SAFETY: as for `record`.
+    let run = unsafe { &*run.cast::<raw::Run>() };
+    answer(raw::add_case(
+        buffer, task_len, start, goal_true, goal_false, run,
+    ))
+}
+
 /// The same record in the library's type.
 fn record(run: &mut Run) -> &mut raw::Run {
     let run: *mut Run = run;

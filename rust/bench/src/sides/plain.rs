@@ -26,3 +26,9 @@ pub fn step(task: &[u8], program: &[u8], run: &mut Run) -> Answer {
 pub fn steps(task: &[u8], program: &[u8], count: u64, run: &mut Run) -> StepsAnswer {
     reference::steps(task, program, count, run)
 }
+
+#[inline(never)]
+pub fn add_case(buffer: &mut [u8], task_len: usize, case: [u64; 3], run: &Run) -> Answer {
+    let [start, goal_true, goal_false] = case;
+    reference::add_case(buffer, task_len, start, goal_true, goal_false, run)
+}

@@ -156,10 +156,8 @@ fn action_body(action: &Action, names: &Names) -> Result<Vec<u8>, Mistake> {
 }
 
 fn case_body(case: &Case, names: &Names) -> Result<Vec<u8>, Mistake> {
-    let place = format!("case `{}`", case.name);
-    let start = names.fact_set(&case.start, &place)?;
-    let [goal_true, goal_false] = names.pair(&case.goal, &place)?;
-    Ok(set_bytes(&[start, goal_true, goal_false]))
+    let (start, goal) = names.case_sets(case)?;
+    Ok(set_bytes(&[start, goal.true_facts, goal.false_facts]))
 }
 
 /// Eight bytes for each fact set.

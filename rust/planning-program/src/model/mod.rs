@@ -66,6 +66,8 @@ pub use names::{NameKind, NameList, Names};
 pub use plan::{plan_bytes, steps_of, Step, StepKind};
 pub use program::{Procedure, Program};
 
+use crate::late_case::Goal;
+
 /// The words in which tasks and programs are described, to be imported together.
 pub mod words {
     pub use super::action::{action, always, is, not, when};
@@ -109,6 +111,33 @@ impl Model {
             program.fill(&procedure, &self.names)?;
         }
         Ok(program)
+    }
+
+    /// A case in sets of facts: those that are true at its start, and its goal, as [`Run::add_case`](crate::Run::add_case) takes them. Its
+    /// name serves a mistake alone.
+    ///
+    /// ```
+    /// use planning_program::model::{words::*, Bounds, TaskBuilder};
+    /// use planning_program::{Run, Task, CASE_LEN};
+    ///
+    /// let model = TaskBuilder::new(Bounds { last_line: 2, stack: 1, steps: 10 })
+    ///     .facts(["open", "bib"])
+    ///     .actions([action("enter").effects([always().raises(["bib"])])])
+    ///     .procedures(["main"])
+    ///     .cases([case("first click").start(["open"]).goal([is("bib")])])
+    ///     .build()?;
+    /// let mut buffer = model.task_bytes().to_vec();
+    /// let len = buffer.len();
+    /// buffer.resize(len + CASE_LEN, 0);
+    /// let run = Run::start(&Task::check(&buffer[..len])?);
+    ///
+    /// let (start, goal) = model.case_sets(&case("closed").goal([is("bib"), not("open")]))?;
+    /// let len = run.add_case(&mut buffer, len, start, goal)?;
+    /// assert_eq!(Task::check(&buffer[..len])?.cases(), 2);
+    /// # Ok::<(), Box<dyn std::error::Error>>(())
+    /// ```
+    pub fn case_sets(&self, case: &Case) -> Result<(u64, Goal), Mistake> {
+        self.names.case_sets(case)
     }
 
     /// The program in these bytes, if they have the length of one for this task and each line has an instruction.

@@ -1,8 +1,10 @@
 //! The names of facts, actions, procedures and cases, and the numbers that stand for them in the files.
 
 use super::action::Literal;
+use super::case::Case;
 use super::instruction::Instruction;
 use super::mistake::{in_range, Mistake};
+use crate::late_case::Goal;
 use std::fmt;
 
 /// What a name is the name of.
@@ -119,7 +121,7 @@ impl Names {
     }
 
     /// The set of the facts with these names.
-    pub(super) fn fact_set(&self, names: &[String], place: &str) -> Result<u64, Mistake> {
+    fn fact_set(&self, names: &[String], place: &str) -> Result<u64, Mistake> {
         names
             .iter()
             .try_fold(0, |set, name| Ok(set | 1 << self.facts.find(name, place)?))
@@ -140,6 +142,18 @@ impl Names {
             }
         }
         Ok(pair)
+    }
+
+    /// The facts that are true at a case's start, and its goal.
+    pub(super) fn case_sets(&self, case: &Case) -> Result<(u64, Goal), Mistake> {
+        let place = format!("case `{}`", case.name);
+        let start = self.fact_set(&case.start, &place)?;
+        let [true_facts, false_facts] = self.pair(&case.goal, &place)?;
+        let goal = Goal {
+            true_facts,
+            false_facts,
+        };
+        Ok((start, goal))
     }
 
     /// An instruction with the numbers of the names in it.

@@ -199,6 +199,24 @@ fn facts_of_a_set_have_their_names() {
     assert_eq!(model.names().facts.number("number"), None);
 }
 
+#[test]
+fn a_case_in_sets() {
+    let model = double_click().build().unwrap();
+    let third = || case("third click").start(["bib"]);
+    let goal = Goal {
+        true_facts: 0b10,
+        false_facts: 0b01,
+    };
+    let sets = model.case_sets(&third().goal([is("bib"), not("open")]));
+    assert_eq!(sets, Ok((0b10, goal)));
+    assert_eq!(model.case_sets(&third()), Ok((0b10, Goal::default())));
+    let mistake = model.case_sets(&third().goal([is("late")])).unwrap_err();
+    assert_eq!(
+        mistake.to_string(),
+        "case `third click`: no fact is named `late`"
+    );
+}
+
 fn numbered(count: usize) -> Vec<String> {
     (0..count).map(|number| number.to_string()).collect()
 }

@@ -6,6 +6,7 @@ use super::comparison::Comparison;
 use super::random::Random;
 use super::request::{Lent, Request};
 use super::tally::Tally;
+use super::task::Case;
 
 pub struct Caller {
     pub random: Random,
@@ -70,6 +71,43 @@ impl Caller {
             count,
             run,
         });
+    }
+
+    /// The longer task, if the case is added; it has to pass.
+    pub fn add_case(
+        &mut self,
+        buffer: &[u8],
+        task_len: usize,
+        case: Case,
+        run: Run,
+    ) -> Option<Vec<u8>> {
+        let outcome = self.comparison.ask(Request::Late {
+            buffer,
+            task_len,
+            case,
+            run,
+        });
+        let (0, Lent::Buffer(mut longer)) = (outcome.answer.number, outcome.lent) else {
+            return None;
+        };
+        longer.truncate(outcome.answer.value as usize);
+        let task = &longer;
+        let passed = self.comparison.ask(Request::Task { task });
+        assert_eq!(passed.answer.number, 0, "the longer task");
+        Some(longer)
+    }
+
+    /// As many steps as the position has made have to lead there from the start.
+    pub fn reach(&mut self, task: &[u8], program: &[u8], start: Run, position: Run) {
+        let outcome = self.comparison.ask(Request::Steps {
+            task,
+            program,
+            count: position.steps.into(),
+            run: start,
+        });
+        let reached = outcome.lent == Lent::Record(position);
+        assert!(reached, "the steps lead elsewhere: {outcome}");
+        self.comparison.tally.reached += 1;
     }
 
     fn buffer(&mut self, needed: usize) -> Vec<u8> {

@@ -15,7 +15,7 @@ impl Comparison {
     pub fn new(seed: u64) -> Self {
         Comparison {
             seed,
-            tally: Tally::default(),
+            tally: Tally::EMPTY,
         }
     }
 

@@ -1,11 +1,12 @@
-//! The five entries and the pairs of an action, of the proved library and of the reference, with the same types.
+//! The six entries and the pairs of an action, of the proved library and of the reference, with the same types.
 
 use planning_program::raw::{self, Answer, Run, StepsAnswer};
 
 use super::pairs;
+use super::task::{Case, Pair};
 
 /// An entry over a task, another file and a buffer that it may fill.
-pub type FillEntry = fn(&[u8], &[u8], &mut [u8]) -> Answer;
+type FillEntry = fn(&[u8], &[u8], &mut [u8]) -> Answer;
 
 pub struct Entries {
     pub check_task: fn(&[u8]) -> Answer,
@@ -14,6 +15,7 @@ pub struct Entries {
     pub write_plan: FillEntry,
     pub step: fn(&[u8], &[u8], &mut Run) -> Answer,
     pub steps: fn(&[u8], &[u8], u64, &mut Run) -> StepsAnswer,
+    pub add_case: fn(&mut [u8], usize, Case, &Run) -> Answer,
 }
 
 pub const LIBRARY: Entries = Entries {
@@ -23,6 +25,10 @@ pub const LIBRARY: Entries = Entries {
     write_plan: raw::write_plan,
     step: raw::step,
     steps: raw::steps,
+    add_case: |buffer, task_len, Case { start, goal }, run| {
+        let Pair(goal_true, goal_false) = goal;
+        raw::add_case(buffer, task_len, start, goal_true, goal_false, run)
+    },
 };
 
 pub const REFERENCE: Entries = Entries {
@@ -32,6 +38,12 @@ pub const REFERENCE: Entries = Entries {
     write_plan: |task, program, buffer| answer(reference::write_plan(task, program, buffer)),
     step: |task, program, run| answer(on_own(run, |own| reference::step(task, program, own))),
     steps: reference_steps,
+    add_case: |buffer, task_len, Case { start, goal }, run| {
+        let (Pair(goal_true, goal_false), run) = (goal, &own(run));
+        answer(reference::add_case(
+            buffer, task_len, start, goal_true, goal_false, run,
+        ))
+    },
 };
 
 fn answer(answer: reference::Answer) -> Answer {
@@ -50,15 +62,20 @@ fn reference_steps(task: &[u8], program: &[u8], count: u64, run: &mut Run) -> St
     }
 }
 
-/// Lends the reference a record of its own type, and takes over what it has afterwards.
-fn on_own<T>(run: &mut Run, entry: impl FnOnce(&mut reference::Run) -> T) -> T {
-    let mut own = reference::Run {
+/// The record in the reference's own type.
+fn own(run: &Run) -> reference::Run {
+    reference::Run {
         facts: run.facts,
         steps: run.steps,
         case: run.case,
         depth: run.depth,
         frames: run.frames,
-    };
+    }
+}
+
+/// Lends the reference a record of its own type, and takes over what it has afterwards.
+fn on_own<T>(run: &mut Run, entry: impl FnOnce(&mut reference::Run) -> T) -> T {
+    let mut own = own(run);
     let answer = entry(&mut own);
     *run = Run {
         facts: own.facts,

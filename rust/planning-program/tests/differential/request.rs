@@ -4,8 +4,9 @@ use std::fmt;
 
 use planning_program::raw::{Answer, Run, StepsAnswer};
 
-use super::entries::{Entries, FillEntry};
+use super::entries::Entries;
 use super::pairs::PAIR_BYTES;
+use super::task::Case;
 use super::words::{shown, word, words_of};
 
 #[derive(Clone, Copy)]
@@ -38,10 +39,16 @@ pub enum Request<'a> {
         count: u64,
         run: Run,
     },
+    Late {
+        buffer: &'a [u8],
+        task_len: usize,
+        case: Case,
+        run: Run,
+    },
 }
 
 /// The names of the kinds of requests, in the order of `Request::kind`.
-pub const KINDS: [&str; 6] = ["task", "pairs", "check", "write", "step", "steps"];
+pub const KINDS: [&str; 7] = ["task", "pairs", "check", "write", "step", "steps", "late"];
 
 /// An answer, and all that was lent for writing as it is afterwards.
 #[derive(PartialEq)]
@@ -69,6 +76,7 @@ impl Request<'_> {
             Request::Write { .. } => 3,
             Request::Step { .. } => 4,
             Request::Steps { .. } => 5,
+            Request::Late { .. } => 6,
         }
     }
 
@@ -83,12 +91,14 @@ impl Request<'_> {
                 let count = (entries.pairs_before_fault)(facts, body);
                 Outcome::of_pairs(count, body)
             }
-            Request::Check { task, plan, buffer } => filled(entries.check_plan, task, plan, buffer),
+            Request::Check { task, plan, buffer } => {
+                filled(buffer, |buffer| (entries.check_plan)(task, plan, buffer))
+            }
             Request::Write {
                 task,
                 program,
                 buffer,
-            } => filled(entries.write_plan, task, program, buffer),
+            } => filled(buffer, |buffer| (entries.write_plan)(task, program, buffer)),
             Request::Step {
                 task,
                 program,
@@ -107,6 +117,14 @@ impl Request<'_> {
                 let answer = (entries.steps)(task, program, count, &mut run);
                 Outcome::of_steps(answer, run)
             }
+            Request::Late {
+                buffer,
+                task_len,
+                case,
+                run,
+            } => filled(buffer, |buffer| {
+                (entries.add_case)(buffer, task_len, case, &run)
+            }),
         }
     }
 }
@@ -138,9 +156,10 @@ impl Outcome {
     }
 }
 
-fn filled(entry: FillEntry, task: &[u8], other: &[u8], buffer: &[u8]) -> Outcome {
+/// Of an entry that gets a copy of the buffer.
+fn filled(buffer: &[u8], entry: impl FnOnce(&mut [u8]) -> Answer) -> Outcome {
     let mut buffer = buffer.to_vec();
-    let answer = entry(task, other, &mut buffer);
+    let answer = entry(&mut buffer);
     Outcome {
         answer,
         made: None,
@@ -172,6 +191,15 @@ impl fmt::Display for Request<'_> {
                 count,
                 run,
             } => [word(task), word(program), count.to_string(), words_of(&run)].join(" "),
+            Request::Late {
+                buffer,
+                task_len,
+                case: Case { start, goal },
+                run,
+            } => {
+                let (buffer, run) = (word(buffer), words_of(&run));
+                format!("{buffer} {task_len} {start} {} {} {run}", goal.0, goal.1)
+            }
         };
         write!(f, "{} {words}", KINDS[self.kind()])
     }

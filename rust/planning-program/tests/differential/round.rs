@@ -4,10 +4,11 @@ use planning_program::raw::Run;
 
 use super::caller::Caller;
 use super::changes::changed;
+use super::late_cases::{in_buffer, new_case, with_more_cases};
 use super::positions::{break_one, possible};
 use super::random::Random;
 use super::samples::{full_size, sample, Sample};
-use super::task::record;
+use super::task::{record, Task};
 use super::{plan_damage, program_damage, task_damage};
 
 pub fn round(caller: &mut Caller) {
@@ -28,6 +29,9 @@ pub fn round(caller: &mut Caller) {
         ask_damaged_program(caller, &sample);
         ask_damaged_plan(caller, &sample, &plan);
         ask_steps(caller, &sample, &sample.file, &sample.program);
+        for _ in 0..2 {
+            ask_late_case(caller, &sample);
+        }
     }
     for _ in 0..4 {
         ask_changed_task(caller, &sample, &plan);
@@ -43,6 +47,10 @@ fn ask_damaged_task(caller: &mut Caller, sample: &Sample, plan: &[u8]) {
             write_and_check(caller, sample, &task, &sample.program);
         }
         2 => ask_steps(caller, sample, &task, &sample.program),
+        3 => {
+            let run = position(&mut caller.random, &sample.task, &sample.run);
+            add_case(caller, &sample.task, &task, run);
+        }
         _ => {}
     }
 }
@@ -84,23 +92,42 @@ fn ask_changed_task(caller: &mut Caller, sample: &Sample, plan: &[u8]) {
 
 /// A single step and a number of steps, each from a position of its own.
 fn ask_steps(caller: &mut Caller, sample: &Sample, task: &[u8], program: &[u8]) {
-    let run = position(&mut caller.random, sample);
+    let run = position(&mut caller.random, &sample.task, &sample.run);
     caller.step(task, program, run);
-    let run = position(&mut caller.random, sample);
+    let run = position(&mut caller.random, &sample.task, &sample.run);
     ask_steps_from(caller, sample, task, program, run);
 }
 
-/// A position of the sample's run or another, one in four of them not possible.
-fn position(random: &mut Random, sample: &Sample) -> Run {
-    let mut run = match random.below(8) {
-        0 => sample.run[sample.run.len() - 1],
-        1..=4 => random.pick(&sample.run),
-        _ => possible(random, &sample.task),
+/// A position of the run or another, one in four of them not possible.
+fn position(random: &mut Random, task: &Task, run: &[Run]) -> Run {
+    let mut position = match random.below(8) {
+        0 => run[run.len() - 1],
+        1..=4 => random.pick(run),
+        _ => possible(random, task),
     };
     if random.one_in(4) {
-        break_one(random, &sample.task, &mut run);
+        break_one(random, task, &mut position);
     }
-    run
+    position
+}
+
+/// A case for the sample's task, or for it with more cases. Where it is added under a position of the sample's run, the same steps have to
+/// lead there in the longer task.
+fn ask_late_case(caller: &mut Caller, sample: &Sample) {
+    let task = with_more_cases(&mut caller.random, &sample.task);
+    let run = position(&mut caller.random, &task, &sample.run);
+    let longer = add_case(caller, &task, &task.file(), run);
+    let of_the_run = sample.run.get(usize::from(run.steps)) == Some(&run);
+    if let (Some(longer), true) = (longer, of_the_run) {
+        caller.reach(&longer, &sample.program, sample.run[0], run);
+    }
+}
+
+/// The longer file, if the case is added. The file is the task's, or a damaged one.
+fn add_case(caller: &mut Caller, task: &Task, file: &[u8], run: Run) -> Option<Vec<u8>> {
+    let (buffer, len) = in_buffer(&mut caller.random, file);
+    let case = new_case(&mut caller.random, &task.bounds);
+    caller.add_case(&buffer, len, case, run)
 }
 
 fn ask_steps_from(caller: &mut Caller, sample: &Sample, task: &[u8], program: &[u8], run: Run) {

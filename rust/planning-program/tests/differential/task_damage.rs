@@ -3,7 +3,7 @@
 use super::damage::{self, change_length, records};
 use super::instructions::{allowed, disallowed};
 use super::random::Random;
-use super::task::{Pair, Preset, Task, ACTIONS, CASES, EFFECTS, EMPTY, END, MOST};
+use super::task::{Bounds, Pair, Preset, Task, ACTIONS, CASES, EFFECTS, EMPTY, END, MOST};
 
 /// The damaged task's file.
 pub fn damaged(random: &mut Random, task: &Task) -> Vec<u8> {
@@ -45,20 +45,29 @@ fn break_bounds(random: &mut Random, task: &mut Task) {
     *bound = random.pick(&[0, most + 1, 255]);
 }
 
-/// Puts a fact at or above F into a set, or one fact into both sets of a pair.
+/// Breaks a pair or a start of the task.
 fn break_set(random: &mut Random, task: &mut Task) {
-    let below = 1 << random.below(task.bounds.facts.into());
-    // None if F is 64.
-    let above = random.number() & !task.bounds.all_facts();
+    let bounds = task.bounds;
     let case = random.below(task.cases.len());
+    let mut start = task.cases[case].start;
     let mut pairs = task.pairs();
     let pair = random.below(pairs.len());
-    let pair = &mut pairs[pair];
+    break_sets(random, &bounds, &mut start, pairs[pair]);
+    task.cases[case].start = start;
+}
+
+/// Puts facts at or above F into a set, or one fact into both sets of the pair.
+pub fn break_sets(random: &mut Random, bounds: &Bounds, start: &mut u64, pair: &mut Pair) {
+    let below = 1 << random.below(bounds.facts.into());
+    // Fact F alone, or any from F on; none if F is 64.
+    let beyond = !bounds.all_facts();
+    let any = beyond & random.number();
+    let above = random.pick(&[beyond & beyond.wrapping_neg(), any]);
     match random.below(4) {
         0 => pair.0 |= above,
         1 => pair.1 |= above,
-        2 => **pair = Pair(pair.0 | below, pair.1 | below),
-        _ => task.cases[case].start |= above,
+        2 => *pair = Pair(pair.0 | below, pair.1 | below),
+        _ => *start |= above,
     }
 }
 

@@ -1,4 +1,4 @@
-//! The requests of vectors/level-02.txt and their agreed answers; vectors/README.md says how they are written.
+//! The requests of vectors/level-03.txt and their agreed answers; vectors/README.md says how they are written.
 
 pub mod words;
 
@@ -16,19 +16,20 @@ pub struct Vector {
 }
 
 /// The kinds of request, and how many the file has of each.
-pub const COUNTS: [(&str, usize); 7] = [
+pub const COUNTS: [(&str, usize); 8] = [
     ("task", 22),
     ("check", 51),
     ("write", 41),
     ("step", 42),
     ("steps", 42),
-    ("pairs", 153),
-    ("print", 51),
+    ("pairs", 46),
+    ("late", 93),
+    ("print", 52),
 ];
 
 /// All requests of the file.
 pub fn all() -> Vec<Vector> {
-    let text = include_str!("../../../../vectors/level-02.txt");
+    let text = include_str!("../../../../vectors/level-03.txt");
     let lines: Vec<&str> = text.lines().collect();
     let vector = |(k, pair): (usize, &[&'static str])| {
         let line = 2 * k + 1;
@@ -70,7 +71,7 @@ pub fn number<T: TryFrom<u64>>(word: &str) -> T {
 }
 
 impl Vector {
-    /// The task of the request.
+    /// The task of the request; of a late request, the buffer that has it.
     pub fn task(&self) -> Vec<u8> {
         bytes(self.words[1])
     }
@@ -90,7 +91,17 @@ impl Vector {
         number(self.words[3])
     }
 
-    /// The record lent by a step or steps request: its last 36 words.
+    /// The task's length in a late request.
+    pub fn task_len(&self) -> usize {
+        number(self.words[2])
+    }
+
+    /// The start of a late request's new case, and the facts that its goal wants true and wants false.
+    pub fn sets(&self) -> [u64; 3] {
+        [3, 4, 5].map(|word| number(self.words[word]))
+    }
+
+    /// The record lent by a step, steps or late request: its last 36 words.
     pub fn run(&self) -> Run {
         let words = self.words.last_chunk::<36>().expect("a record");
         let frame = |k: usize| [number(words[4 + 2 * k]), number(words[5 + 2 * k])];
