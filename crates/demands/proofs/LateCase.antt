@@ -124,6 +124,10 @@ module _ (old new : List ℕ) (c : Case) (longer : Longer old new c) (program : 
       let made = all k (omega arith) in
       more k (at k) (at (suc k)) (same-steps-of k (λ j h. all j (omega (arith, h))) (frame-there (at k) made)) (step-same (at k) made d)
 
+  -- so what steps on the old task led to, if it has a frame, the same steps on the longer one lead to
+  led : (k : ℕ) (s : Position) → LeadTo old program k s → 0 < s .depth → LeadTo new program k s
+  led k s l d = rw (l .to) at (same-steps-of k (l .made) (rw (l .to) d))
+
   reopens : (k : ℕ) → AllMade old program k → at k .depth ≡ 0 → LeadTo new program k (reopened c (at k))
   unfolding recordAfter starting
   reopens zero all z = absurd (omega (arith, z))
@@ -232,10 +236,7 @@ call-adds buffer given c run are value e =
           ∙ ap (λ (n : ℕ). drop n (longer ++ drop (length longer) buffer)) (x .yes .value)
           ∙ drop-append-seam longer _
           ∙ ap (λ (n : ℕ). drop n buffer) (sym (x .yes .value));
-      same-steps =
-          λ program k l.
-          let same = same-steps-of old (take value (addedBuffer buffer given c run)) c files program k (l .made) (rw (l .to) (x .yes .above)) in
-          record { made = same .made; to = same .to ∙ l .to };
+      same-steps = λ program k l. led old (take value (addedBuffer buffer given c run)) c files program k run l (x .yes .above);
     }
 
 -- an open run that steps led to passes 31 and 32
@@ -352,10 +353,7 @@ longer-runs old new c program longer =
           λ s made d.
           step-same old new c longer program s made d
           ∙ sym (whole-answer old program s made);
-      same-steps =
-          λ k s l d.
-          let same = same-steps-of old new c longer program k (l .made) (rw (l .to) (omega (arith, d))) in
-          record { made = same .made; to = same .to ∙ l .to };
+      same-steps = λ k s l d. led old new c longer program k s l (omega (arith, d));
       new-case-begins = λ k s l z. begins-of old new c longer program k (l .made) (rw (l .to) z);
       solves-longer =
           λ k trace solves ends bound.
