@@ -55,7 +55,7 @@ enum pp_question {
 
     /* Checker, writer, pp_step and pp_steps, running an instruction. The place is as for PP_STEP_BOUND. */
     PP_PRECONDITION = 19,        /* the action's precondition does not hold */
-    PP_CLASH = 20,               /* effects that fire raise and lower the same fact */
+    PP_CLASH = 20,               /* never answered: a fact both raised and lowered is true */
     PP_STACK_FULL = 21,          /* the call stack is full */
     PP_GOAL = 22,                /* the case ends, and its goal does not hold */
 

@@ -47,7 +47,7 @@ module _ (bytes program : List ℕ) where
 
   next-of : (s : Position) (r : Stepped) → Answers bytes program s r → r ≡ singleStep bytes program s → Next s
   unfolding unchanged asCall madeBy counting
-  next-of s r (refuses question place) e =
+  next-of s r (refuses question place y) e =
       stops (record {
         verdict = λ made. Refused question place;
         counts = λ c made. refl;

@@ -54,7 +54,7 @@ unfolding answerTo table
     program.everyLine program.programVerdict
     reading.noLayout reading.begin reading.accepted reading.mayStand reading.byKind reading.lengthFits reading.headerTurn reading.actionTurn
     reading.caseTurn reading.closeTurn reading.kindTurn reading.onRecord reading.turnOf reading.readTask
-    effects.fired effects.someHas effects.changesOf effects.clashFree effects.trueAfter effects.changed
+    effects.fired effects.someHas effects.changesOf effects.trueAfter effects.changed
     facts.has facts.setOf facts.every facts.agrees facts.holds
     perform.act perform.goto perform.call perform.afterCase perform.end perform.perform perform.performDecoded perform.runLine
     perform.runStep

@@ -20,7 +20,7 @@ use Rattle.task.specs.declared.instruction.Line.{Line}
 use Rattle.task.specs.declared.instruction.Proc.{Proc}
 use Rattle.task.specs.declared.instruction.Instruction.{Instruction}
 use Rattle.task.specs.declared.instruction.Instruction.the-variants.{Empty, Act, Goto, Call, End}
-use Rattle.step.specs.Effects.{changesOf, clashFree, changed}
+use Rattle.step.specs.Effects.{changesOf, changed}
 use Rattle.step.specs.Facts.{has, holds}
 use Rattle.step.specs.Position.{sameFrame}
 use Rattle.step.specs.declared.position.Frame.{Frame}
@@ -69,10 +69,9 @@ module _ (bytes : List ℕ) (t : Layout) where
 
   -- running an instruction that the top frame (j, i) is at
   pub data Runs : Frame → Instruction → Running → Running → Type 0 where
-    -- an action whose precondition holds, and whose effects that fire do not clash, changes the facts; the line grows by 1
+    -- an action whose precondition holds changes the facts; the line grows by 1
     acts : {action c s i : ℕ} {j : Proc} {below : List Frame}
         → holds s (actionAt bytes (offsetOf action) .precondition) ≡ true
-        → clashFree (changesOf s (effectsOf bytes (offsetOf action))) ≡ true
         → Runs (at j i) (Act action)
         (run c s (at j i ∷ below))
         (run c (changed s (changesOf s (effectsOf bytes (offsetOf action)))) (at j (i + 1) ∷ below))

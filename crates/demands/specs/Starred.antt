@@ -151,7 +151,7 @@ table =
     ∷ (writes doubleClick (goto 2 0 ++ empty ++ end) (lent 50), Refused 28 1, lent 50)  -- *10
     ∷ (writes doubleClick (act 0 ++ end ++ empty) (lent 50), Refused 19 2, lent 50)  -- *11
     ∷ (writes doubleClick (goto 2 0 ++ goto 2 1 ++ end) (lent 50), Refused 22 2, lent 50)  -- *12
-    ∷ (checks (taskWith 5 (effect 2 1 ++ effect 1 0)) goodPlan (lent 10), Refused 20 9, lent 10)  -- *13
+    ∷ (checks (taskWith 5 (effect 2 1 ++ effect 1 0)) goodPlan (lent 10), Refused 22 18, lent 10)  -- *13
     ∷ []
 
 -- the definitions' answers to the requests are the table's

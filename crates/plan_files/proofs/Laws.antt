@@ -1,4 +1,3 @@
--- The laws of the definitions in specs/: question 30 and what is printed (Files), how long that is (Printed), and why (Answers).
-pub mod Answers
+-- The laws of the definitions in specs/: question 30 and what is printed (Files), and how long that is (Printed).
 pub mod Files
 pub mod Printed

@@ -1,10 +1,11 @@
 -- What an action does, fact by fact. Every condition is tested in the state before the action, and the effects whose conditions are met
--- there fire, all at once: what they raise is true afterwards, what they lower is false, and a fact that none of them names stays as it was.
+-- there fire, all at once: what one of them raises is true afterwards, even if another lowers it; any other fact that one of them lowers is
+-- false; and a fact that none of them names stays as it was.
 use Prim.Native.Nat.{ℕ}
 use mathlib.Core.List.{List, [], _∷_}
 use mathlib.Core.Bool.{Bool, false, cond, not, _&&_, _||_}
 use Rattle.task.specs.declared.index.Effect.{Effect}
-use Rattle.step.specs.Facts.{has, setOf, every, holds}
+use Rattle.step.specs.Facts.{has, setOf, holds}
 use Rattle.step.specs.declared.effects.Changes.{Changes}
 
 -- the effects that fire: those whose conditions hold in the state
@@ -24,10 +25,6 @@ changesOf state effects =
       raised = setOf 64 (someHas (λ e. e .raised) (fired state effects));
       lowered = setOf 64 (someHas (λ e. e .lowered) (fired state effects));
     }
-
--- whether no fact is both raised and lowered
-unfoldable pub clashFree : Changes → Bool
-clashFree c = every 64 (λ f. not (has (c .raised) f && has (c .lowered) f))
 
 -- whether a fact is true afterwards: it is raised, or it was true and is not lowered
 unfoldable pub trueAfter : ℕ → Changes → ℕ → Bool

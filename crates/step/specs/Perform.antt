@@ -17,19 +17,18 @@ use Rattle.task.specs.declared.instruction.Decoded.{Decoded}
 use Rattle.task.specs.declared.instruction.Decoded.the-variants.{Is, Nothing}
 use Rattle.task.specs.declared.verdict.Verdict.{Verdict}
 use Rattle.task.specs.declared.verdict.Verdict.the-variants.{Accepted, Refused}
-use Rattle.step.specs.Effects.{changesOf, clashFree, changed}
+use Rattle.step.specs.Effects.{changesOf, changed}
 use Rattle.step.specs.Facts.{has, holds}
 use Rattle.step.specs.Position.{top, jumped, advanced, pushed, popped, withFacts, nextCase, finished, counted}
-use Rattle.step.specs.Questions.{STEPS, PRECONDITION, CLASH, STACK, GOAL, EMPTY}
+use Rattle.step.specs.Questions.{STEPS, PRECONDITION, STACK, GOAL, EMPTY}
 use Rattle.step.specs.declared.perform.Stepped.{Stepped}
 use Rattle.step.specs.declared.position.Position.{Position}
 
--- act, given where the action's record is: questions 19 and 20; the facts change, and the line grows by 1
+-- act, given where the action's record is: question 19; the facts change, and the line grows by 1
 unfoldable pub act : List ℕ → ℕ → Position → Turn Position ℕ
 act bytes at s =
     ask (holds (s .facts) (actionAt bytes at .precondition)) PRECONDITION
-    (ask (clashFree (changesOf (s .facts) (effectsOf bytes at))) CLASH
-    (go (counted (withFacts (advanced s) (changed (s .facts) (changesOf (s .facts) (effectsOf bytes at)))))))
+    (go (counted (withFacts (advanced s) (changed (s .facts) (changesOf (s .facts) (effectsOf bytes at))))))
 
 -- goto: the line grows by 1 if the fact is true, and becomes the target if it is false
 unfoldable pub goto : Line → ℕ → Position → Turn Position ℕ
@@ -51,7 +50,7 @@ end bytes i s =
     (ask (holds (s .facts) (caseAt bytes (i .first) (s .case) .goal)) GOAL (go (counted (afterCase bytes i s))))
 
 module _ (bytes : List ℕ) (i : Index) (offsets : List ℕ) where
-  -- an instruction: questions 19 to 22, and 28 of an empty one
+  -- an instruction: questions 19, 21 and 22, and 28 of an empty one
   unfoldable pub perform : Position → Instruction → Turn Position ℕ
   perform s Empty = stop EMPTY
   perform s (Act action) = act bytes (getD offsets action 0) s

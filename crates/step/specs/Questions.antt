@@ -9,7 +9,7 @@ STEPS = 14
 abbrev pub PRECONDITION : ℕ
 PRECONDITION = 19
 
--- act: whether no fact gets both raised and lowered
+-- whether no fact gets both raised and lowered: the number stays, and is never answered, as such a fact is true
 abbrev pub CLASH : ℕ
 CLASH = 20
 

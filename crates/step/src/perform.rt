@@ -4,7 +4,6 @@ use crate::facts::holds;
 use crate::head::Head;
 use crate::position::Position;
 use crate::position::frame_at;
-use crate::questions::CLASH;
 use crate::questions::EMPTY;
 use crate::questions::GOAL;
 use crate::questions::PRECONDITION;
@@ -38,7 +37,7 @@ pub struct Stepped {
     pub position: Position,
 }
 
-// Act: questions 19 and 20, whether no fact is both raised and lowered; then the facts raised, and those before that are not lowered.
+// Act: question 19; then the facts raised, and those before that are not lowered.
 fn act(task: &[u8], at: usize, facts: u64) -> Asked
     requires { ⌜ at + (20 + 32 * actionAt (now task) at .effects) ≤ length (now task) ⌝ }
     ensures { λ r. ⌜ ((i : Index) (s : Position) (action : ℕ) →
@@ -53,9 +52,6 @@ fn act(task: &[u8], at: usize, facts: u64) -> Asked
         return Asked::No(PRECONDITION);
     }
     let changes = changes_of(task, at, action.effects, facts);
-    if changes.raised & changes.lowered != 0 {
-        return Asked::No(CLASH);
-    }
     Asked::Facts(changes.raised | (facts ^ (facts & changes.lowered)))
 }
 

@@ -4,7 +4,7 @@
 pub const STEPS: u8 = 14;
 // Act: is its precondition met?
 pub const PRECONDITION: u8 = 19;
-// Act: does no fact get both raised and lowered?
+// Does no fact get both raised and lowered? The number stays, and is never answered, as such a fact is true.
 pub const CLASH: u8 = 20;
 // Call: has the stack room below m frames?
 pub const STACK: u8 = 21;

@@ -24,7 +24,7 @@ use std::fmt;
 /// ```
 #[derive(Clone, Copy, Debug, PartialEq, Eq, Hash)]
 pub struct Refusal {
-    /// The question's number, 1 to 34.
+    /// The question's number, 1 to 34; 20 never says no.
     pub question: u8,
     /// Its place.
     pub place: u32,
@@ -47,7 +47,7 @@ enum Place {
     PlanOrSteps,
     /// The bytes that the buffer would need.
     Needed,
-    /// Nothing: it is the same number every time.
+    /// Nothing: it is the same number every time, or there is none.
     Nothing,
 }
 
@@ -94,8 +94,8 @@ const QUESTIONS: [(Place, &str); 34] = [
         "the action's precondition does not hold",
     ),
     (
-        Place::PlanOrSteps,
-        "effects that fire raise and lower the same fact",
+        Place::Nothing,
+        "never answered: a fact both raised and lowered is true",
     ),
     (Place::PlanOrSteps, "the call stack is full"),
     (
@@ -253,6 +253,7 @@ mod tests {
                 36,
                 "question 14 at byte 36 of the plan checked, or after 36 steps of the program run: ",
             ),
+            (20, 0, "question 20: "),
             (24, 49, "question 24 at byte 49 of the plan: "),
             (25, 0, "question 25: "),
             (26, 3, "question 26 at byte 3 of the program: "),
@@ -290,6 +291,7 @@ mod tests {
             (8, "preset twice"),
             (16, "finished already"),
             (19, "precondition"),
+            (20, "never answered"),
             (22, "goal"),
             (27, "preset line"),
             (31, "position"),

@@ -5,8 +5,8 @@
 //! record, after refusals and beyond what is filled too. A call for a number of steps must give what as many single steps of the library
 //! give. The pairs of an action before the first that fails are counted by the reference, and by the library's verdicts on tasks. A task that
 //! a late case was added to must pass; and where that was done under a position of a real run, the same steps must lead there in the longer
-//! task. A difference is shown with the seed, the request as a line of vectors/README.md, and both outcomes. Every number has to come up, or
-//! the test fails.
+//! task. A difference is shown with the seed, the request as a line of vectors/README.md, and both outcomes. The test fails unless every
+//! number comes up but 20, which never may, and unless enough steps raise a fact by one effect and lower it by another.
 //!
 //! With another seed or more requests, and with the table of answers:
 //!
@@ -47,7 +47,7 @@ use differential::round::round;
 
 const SEED: u64 = 20_250_711;
 const LEAST_REQUESTS: usize = 250_000;
-/// How often each of 1 to 29 and 31 to 34 has to come up.
+/// How often each of 1 to 19, 21 to 29 and 31 to 34 has to come up.
 const LEAST_REFUSALS: usize = 50;
 /// How often 0 has to come up for each kind of request.
 const LEAST_ACCEPTED: usize = 10_000;
@@ -55,6 +55,8 @@ const LEAST_ACCEPTED: usize = 10_000;
 const LEAST_FAULTS_OF_PAIRS: usize = 1_000;
 /// How often each of their questions has to come up for the single step, and for a number of steps.
 const LEAST_REFUSALS_OF_STEPS: usize = 20;
+/// How often a single step has to raise a fact by one effect and lower it by another.
+const LEAST_MEETINGS: usize = 1_000;
 /// How often each question of a task has to come up for a late case, and how often each of its own.
 const LEAST_REFUSALS_OF_LATE_CASES: [usize; 2] = [20, 500];
 
@@ -74,6 +76,7 @@ fn library_and_reference_agree() {
     caller
         .tally()
         .assert_least_of_steps(LEAST_REFUSALS_OF_STEPS);
+    caller.tally().assert_least_meetings(LEAST_MEETINGS);
     let [of_tasks, of_its_own] = LEAST_REFUSALS_OF_LATE_CASES;
     caller
         .tally()

@@ -1,8 +1,8 @@
 //! The stored samples: made by their builder, accepted by the checker, and true to what they are about.
 //!
 //! That a plan is accepted says that the facts end as the goal wants. Whether the facts mean what their names say is tested apart: each sample's
-//! world is simulated here on coordinates, trees or an entry form. The listing is run in it by the words that stand there, beside the library's
-//! run; and every action and goal of the task is compared with it.
+//! world is simulated here on coordinates, trees, an entry form or a queue. The listing is run in it by the words that stand there, beside the
+//! library's run; and every action and goal of the task is compared with it.
 
 #[path = "samples/beside.rs"]
 mod beside;
@@ -14,6 +14,8 @@ mod entry_form;
 mod grid;
 #[path = "samples/interpreter.rs"]
 mod interpreter;
+#[path = "samples/queue.rs"]
+mod queue;
 #[path = "../examples/make-samples/samples/mod.rs"]
 mod samples;
 #[path = "samples/tree.rs"]
@@ -130,6 +132,13 @@ fn reference_agrees() {
 fn double_click_gives_one_bib() {
     run_beside("double-click", entry_form::forms());
     assert_true_to("double-click", entry_form::forms());
+}
+
+/// One effect lowers `at desk` and the other raises it: the desk stays taken.
+#[test]
+fn moving_up_leaves_nobody_out() {
+    run_beside("moving-up", queue::queues());
+    assert_true_to("moving-up", queue::queues());
 }
 
 #[test]

@@ -1,4 +1,4 @@
-//! The agreed answers of vectors/level-03.txt, asked of the library's entries, of the wrapper and of the program `check_plan`; and runs by
+//! The agreed answers of vectors/level-04.txt, asked of the library's entries, of the wrapper and of the program `check_plan`; and runs by
 //! single steps beside the plans that they should follow.
 
 mod pairs;
@@ -237,7 +237,7 @@ fn run_beside(name: &str, task: &Task, program: &[u8], plan: &[u8]) {
 fn runs_of_the_writes() {
     let mut requests = of_kind("write");
     requests.retain(|v| v.answer().number == 0);
-    assert_eq!(requests.len(), 3);
+    assert_eq!(requests.len(), 15);
     for v in requests {
         let (name, task, program) = (format!("line {}", v.line), v.task(), v.other());
         let task = Task::check(&task).expect("a task that passes");

@@ -1,5 +1,5 @@
 //! Actions: a precondition and conditional effects, borrowed from the task file.
-//! Questions 19 and 20.
+//! Question 19.
 
 use crate::answer::{ask, Question};
 use crate::facts::{Facts, Literals, PAIR_BYTES};
@@ -39,7 +39,8 @@ impl<'a> Action<'a> {
         })
     }
 
-    /// The facts after the action: every condition is judged in the facts before it.
+    /// The facts after the action. Every condition is judged in the facts before it, and a fact
+    /// that is both raised and lowered becomes true.
     pub fn apply(&self, facts: Facts) -> Result<Facts, Question> {
         ask(19, self.precondition.hold_in(facts))?;
         let mut raised = 0;
@@ -50,8 +51,7 @@ impl<'a> Action<'a> {
                 lowered |= effect.change.negative;
             }
         }
-        ask(20, raised & lowered == 0)?;
-        Ok((facts | raised) & !lowered)
+        Ok((facts & !lowered) | raised)
     }
 
     fn effects(&self) -> impl Iterator<Item = Effect> + 'a {

@@ -1,5 +1,5 @@
 //! Runs: facts, steps done, case and call stack, changed in place by one instruction at a time.
-//! Questions 14, 19 to 22 and 28 before a step, and 31 on a caller's own run.
+//! Questions 14, 19, 21, 22 and 28 before a step, and 31 on a caller's own run.
 
 use crate::answer::{ask, Question};
 use crate::instruction::Instruction;

@@ -1,9 +1,10 @@
-//! The worked examples of the double-click task, actions' pairs, the single step at its step bound, and numbers of steps.
+//! The worked examples of the double-click task, actions' pairs, effects that fire together, the single step at its step bound, and numbers
+//! of steps.
 //! Buffers are full of a mark, so that every byte kept or filled shows.
 
 mod double_click;
 
-use double_click::{answer, open, positions, sets, DoubleClick, MARK, PROGRAM, TASK};
+use double_click::{answer, open, positions, record, sets, DoubleClick, MARK, PROGRAM, TASK};
 use reference::{
     check_plan, check_task, pairs_before_fault, print_check, step, steps, write_plan, Run,
     StepsAnswer,
@@ -28,8 +29,8 @@ const MOST_STEPS: DoubleClick = DoubleClick {
     ..TASK
 };
 
-/// A second effect raises the fact that the first one lowers.
-const CLASH: DoubleClick = DoubleClick {
+/// A second effect raises the fact that the first one lowers, `open`.
+const STAYS_OPEN: DoubleClick = DoubleClick {
     more_effects: &[[0, 0, 1, 0]],
     ..TASK
 };
@@ -72,7 +73,7 @@ fn plans_are_refused() {
         ("*7", TASK, end_on_line_0, answer(15, 0)),
         ("*8", TASK, call_0, answer(21, 0)),
         ("*9", TASK, Vec::new(), answer(11, 0)),
-        ("*13", CLASH, PLAN.to_vec(), answer(20, 9)),
+        ("*13", STAYS_OPEN, PLAN.to_vec(), answer(22, 18)),
     ];
     for (name, task, plan, expected) in table {
         let mut program = [MARK; 12];
@@ -89,6 +90,7 @@ fn programs_are_refused() {
         ("*10", TASK, [2, 2, 0, 0, 0, 0, 4, 0, 0], answer(28, 1)),
         ("*11", TASK, [1, 0, 0, 4, 0, 0, 0, 0, 0], answer(19, 2)),
         ("*12", TASK, [2, 2, 0, 2, 2, 1, 4, 0, 0], answer(22, 2)),
+        ("*13", STAYS_OPEN, PROGRAM, answer(22, 2)),
         ("48 bytes", TASK, PROGRAM, answer(29, 49)),
     ];
     for (name, task, program, expected) in table {
@@ -154,6 +156,39 @@ fn pairs_before_the_first_fault_are_counted() {
     ];
     for (name, facts, body, expected) in table {
         assert_eq!(pairs_before_fault(facts, &body), expected, "{name}");
+    }
+}
+
+/// Of two conditional effects one raises fact 0, if fact 1 is true, and the other lowers it, if fact 2 is.
+#[test]
+fn raised_beats_lowered() {
+    let raises = [0b010, 0, 0b001, 0];
+    let lowers = [0b100, 0, 0, 0b001];
+    let act_end = [1, 0, 0, 4, 0, 0];
+    let table = [
+        ("none fires", 0b000, 0b000),
+        ("none fires", 0b001, 0b001),
+        ("one raises", 0b010, 0b011),
+        ("one raises", 0b011, 0b011),
+        ("one lowers", 0b100, 0b100),
+        ("one lowers", 0b101, 0b100),
+        ("both fire", 0b110, 0b111),
+        ("both fire", 0b111, 0b111),
+    ];
+    for effects in [[raises, lowers], [lowers, raises]] {
+        let action = [[0, 0].as_slice(), effects.as_flattened()].concat();
+        let task = [
+            record(1, &[3, 1, 1, 1, 1, 0]),
+            record(2, &sets(&action)),
+            record(4, &sets(&[0, 0, 0])),
+            record(5, &[]),
+        ]
+        .concat();
+        for (name, facts, after) in table {
+            let mut run = open(0, facts, 0, 0);
+            assert_eq!(step(&task, &act_end, &mut run), answer(0, 1), "{name}");
+            assert_eq!(run, open(0, after, 1, 1), "{name} in {facts:03b}");
+        }
     }
 }
 
@@ -249,9 +284,9 @@ fn steps_before_a_refusal_stay_made() {
     let table = [
         (FOUR_STEPS, PROGRAM, [14, 4, 4], open(1, 2, 2, 4)),
         (TASK, act_end, [19, 2, 2], open(1, 2, 0, 2)),
-        (CLASH, PROGRAM, [20, 1, 1], open(0, 1, 1, 1)),
         (TASK, goto_call, [21, 1, 1], open(0, 1, 1, 1)),
         (TASK, goto_goto, [22, 2, 2], open(0, 1, 2, 2)),
+        (STAYS_OPEN, PROGRAM, [22, 2, 2], open(0, 3, 2, 2)),
         (TASK, goto_empty, [28, 1, 1], open(0, 1, 1, 1)),
     ];
     for (task, program, [number, place, made], after) in table {

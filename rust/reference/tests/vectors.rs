@@ -1,4 +1,4 @@
-//! Runs every request of vectors/level-03.txt and compares with the agreed answer.
+//! Runs every request of vectors/level-04.txt and compares with the agreed answer.
 //! Its README says how a line is written.
 
 use reference::{
@@ -9,7 +9,7 @@ use std::collections::BTreeMap;
 use std::fmt::Display;
 use std::str::FromStr;
 
-const FILE: &str = concat!(env!("CARGO_MANIFEST_DIR"), "/../../vectors/level-03.txt");
+const FILE: &str = concat!(env!("CARGO_MANIFEST_DIR"), "/../../vectors/level-04.txt");
 
 const KINDS: [&str; 8] = [
     "task", "check", "write", "step", "steps", "pairs", "late", "print",
@@ -17,7 +17,7 @@ const KINDS: [&str; 8] = [
 
 #[test]
 fn all_vectors_agree() {
-    let text = std::fs::read_to_string(FILE).expect("vectors/level-03.txt is there");
+    let text = std::fs::read_to_string(FILE).expect("vectors/level-04.txt is there");
     let lines: Vec<&str> = text.lines().collect();
     let mut agreed: BTreeMap<&str, usize> = BTreeMap::new();
     let mut differences = Vec::new();

@@ -164,7 +164,7 @@ module _ (bytes : List ℕ) (s : State) (small : Small s) where
   kinds-good : Kinds Small (Near bytes) bytes s
   kinds-good =
       record {
-        refusal = λ question. refused-near bytes question (s .progress .at) here;
+        refusal = λ question number. refused-near bytes question (s .progress .at) here;
         header = λ f r. header-good _ _ refl (small .first (f .low));
         action = λ size f r l m. action-good _ _ size (omega arith);
         preset = λ f r. preset-good _ _ refl;

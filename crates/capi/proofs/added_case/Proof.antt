@@ -4,7 +4,7 @@ use borrow.Author.Needs.{needs}
 use mathlib.Core.Path.{ap, _∙_}
 use native.Mathlib.Omega.{arith}
 use Rattle.capi.specs.Packed.{packed}
-use Rattle.capi.proofs.Laws.Late.{add-small}
+use Rattle.capi.proofs.Laws.Small.{add-small}
 use Rattle.capi.proofs.added_case.Statement.{statement}
 use Rattle.capi.proofs.added_case.Tie as tie
 

@@ -48,7 +48,7 @@ use Rattle.step.proofs.single.step_in_place.Symbol as step-in-place-def
 use Rattle.step.proofs.single.step_in_place.Symbol.{name as #step-in-place}
 use Rattle.step.proofs.single.step_in_place.Met as step-in-place-thm
 use Rattle.capi.specs.Packed as Specs
-use Rattle.capi.proofs.Laws.Step.{step-small}
+use Rattle.capi.proofs.Laws.Small.{step-small}
 use Rattle.capi.proofs.packed as packed
 use Rattle.capi.proofs.packed.Symbol as packed-def
 use Rattle.capi.proofs.packed.Symbol.{name as #packed}

@@ -47,7 +47,7 @@ use Rattle.steps.proofs.many.many_steps_in_place.Symbol as many-in-place-def
 use Rattle.steps.proofs.many.many_steps_in_place.Symbol.{name as #many-steps-in-place}
 use Rattle.steps.proofs.many.many_steps_in_place.Met as many-in-place-thm
 use Rattle.capi.specs.Packed as Specs
-use Rattle.capi.proofs.Laws.Steps.{steps-small}
+use Rattle.capi.proofs.Laws.Small.{steps-small}
 use Rattle.capi.proofs.packed_steps as packed-steps
 use Rattle.capi.proofs.packed_steps.Symbol as packed-steps-def
 use Rattle.capi.proofs.packed_steps.Symbol.{name as #packed-steps}

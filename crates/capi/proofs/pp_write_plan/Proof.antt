@@ -4,7 +4,7 @@ use borrow.Author.Needs.{needs}
 use mathlib.Core.Path.{ap, _∙_}
 use Rattle.checker.specs.Answer.{Answer}
 use Rattle.capi.specs.Packed.{packed}
-use Rattle.capi.proofs.Laws.Write.{write-small}
+use Rattle.capi.proofs.Laws.Small.{write-small}
 use Rattle.capi.proofs.pp_write_plan.Statement.{statement}
 use Rattle.capi.proofs.pp_write_plan.Tie as tie
 

@@ -1,8 +1,8 @@
 -- The plan, record by record. A turn that goes on has read a step, and every question about it has said yes; one that accepts has read the
 -- closing record at the end of the plan. So a turn that goes on goes to an offset behind its own, and the loop's law applies: what the plan
--- comes to from here on is one turn, and then what it comes to from there on. And it keeps the position possible.
+-- comes to from here on is one turn, and then what it comes to from there on. It keeps the position possible, and the steps within the bound.
 -- Assumes nothing.
-use Prim.Native.Nat.{ℕ, _+_, _≤_, _<_}
+use Prim.Native.Nat.{ℕ, _+_, _*_, _≤_, _<_}
 use mathlib.Core.Path.{_≡_, refl, sym, ap, _∙_}
 use mathlib.Core.Bool.{Bool, true, false}
 use mathlib.Core.List.{List}
@@ -14,7 +14,7 @@ use Rattle.records.specs.Loop.{Turn, stop, go, ask, after, loop}
 use Rattle.records.specs.Record.{recordAt}
 use Rattle.records.specs.declared.record.Found.{Found}
 use Rattle.records.specs.declared.record.Found.the-variants.{Record, Missing}
-use Rattle.records.proofs.Laws.Loop.{Keeps, ask-keeps, unroll}
+use Rattle.records.proofs.Laws.Loop.{Keeps, ask-keeps, unroll, loop-keeps}
 use Rattle.records.proofs.Laws.Record.{record-ends}
 use Rattle.records.proofs.Laws.Tests.{cond-either}
 use Rattle.task.specs.Instruction.{decodeFor, tripleAt}
@@ -27,11 +27,12 @@ use Rattle.task.specs.declared.instruction.Instruction.{Instruction}
 use Rattle.task.proofs.Laws.Instruction.{decoded-for}
 use Rattle.task.proofs.Laws.Passed.{Passed, passed}
 use Rattle.step.specs.Perform.{perform}
-use Rattle.step.specs.Position.{sameFrame, top}
+use Rattle.step.specs.Position.{sameFrame, starting, top}
 use Rattle.step.specs.Possible.{possible}
 use Rattle.step.specs.declared.position.Frame.{Frame}
 use Rattle.step.specs.declared.position.Position.{Position}
 use Rattle.step.proofs.Laws.Kept.{step-possible}
+use Rattle.step.proofs.Laws.Perform.{Number, steps-grow, stop-number}
 use Rattle.step.proofs.Laws.Possible.{parts, case-open}
 use Rattle.checker.specs.Answer.{Result, refused, accepted}
 use Rattle.checker.specs.Check.{State, lineFits, written, onMove, onStep, onDecoded, stepTurn, closeTurn, onRecord, turnOf, left, begin, follow}
@@ -93,16 +94,18 @@ module _ (bytes : List ℕ) (i : Index) (offsets plan : List ℕ) (s : State) wh
     pub count : steps ≡ s .position .steps
     pub same : program ≡ s .program
 
-  -- what an answer says: a refusal has the record's offset as its place, or for 24 the offset behind the closing record
+  -- what an answer says: a refusal has the number of a question that is asked, and the record's offset as its place, or for 24 the offset behind the
+  -- closing record
   abbrev Ended : Result → Type 0
-  Ended (refused question place) = place ≤ s .at + 4
+  Ended (refused question place) = Number question × (place ≤ s .at + 4)
   Ended (accepted steps program) = Ends steps program
 
   abbrev Says : Turn State Result → Type 0
   Says = Keeps Went Ended
 
-  ask-says : (answer : Bool) (question : ℕ) (rest : Turn State Result) → (answer ≡ true → Says rest) → Says (ask answer (refused question (s .at)) rest)
-  ask-says answer question rest k = ask-keeps Went Ended answer _ rest (omega arith) k
+  ask-says : (answer : Bool) (question : ℕ) (rest : Turn State Result) → Number question → (answer ≡ true → Says rest)
+      → Says (ask answer (refused question (s .at)) rest)
+  ask-says answer question rest n k = ask-keeps Went Ended answer _ rest (n, omega arith) k
 
   module _ (kind body size next : ℕ) where
     move-says : StepRecord kind body size next → (w : Instruction)
@@ -110,7 +113,7 @@ module _ (bytes : List ℕ) (i : Index) (offsets plan : List ℕ) (s : State) wh
         → (u : Turn Position ℕ) → perform bytes i offsets (s .position) w ≡ u
         → Says (onMove (s .at) next (reached kind next (frameAt plan body) w (s .position) .program) u)
     unfolding onMove
-    move-says r w taken (stop question) e = omega arith
+    move-says r w taken (stop question) e = (stop-number bytes i offsets (s .position) w question e, omega arith)
     move-says r w taken (go position) e =
         record {
           kind = kind;
@@ -130,15 +133,15 @@ module _ (bytes : List ℕ) (i : Index) (offsets plan : List ℕ) (s : State) wh
     unfolding onDecoded onStep
     decoded-says r few Nothing e = omega arith
     decoded-says r few (Is w) e =
-        ask-says _ _ _ λ case.
-        ask-says _ _ _ λ here.
-        ask-says _ _ _ λ line.
+        ask-says _ _ _ (omega arith) λ case.
+        ask-says _ _ _ (omega arith) λ here.
+        ask-says _ _ _ (omega arith) λ line.
         rw (step-instruction kind w)
         (move-says r w (λ position m. record { few = few; decoded = e; case = ltb-true _ _ case; here = here; line = line; moves = m }) _ refl)
 
     step-says : StepRecord kind body size next → Says (stepTurn bytes i offsets s plan kind body next)
     unfolding stepTurn
-    step-says r = ask-says _ _ _ λ few. decoded-says r (ltb-true _ _ few) _ refl
+    step-says r = ask-says _ _ _ (omega arith) λ few. decoded-says r (ltb-true _ _ few) _ refl
 
     close-says : recordAt plan (s .at) ≡ Record kind body size next → isKind kind ≡ true → lengthFits kind size ≡ true → eqb kind 5 ≡ true
         → Says (closeTurn i plan s next)
@@ -146,8 +149,8 @@ module _ (bytes : List ℕ) (i : Index) (offsets plan : List ℕ) (s : State) wh
     close-says found known fits closing =
         let none = eqb-true size 0 (rw closing at fits) in
         let behind : next ≤ s .at + 4 = omega (arith, record-ends plan (s .at) kind body size next found) in
-        ask-says _ _ _ λ case.
-        ask-keeps Went Ended _ (refused PLAN-CLOSED next) _ behind λ end.
+        ask-says _ _ _ (omega arith) λ case.
+        ask-keeps Went Ended _ (refused PLAN-CLOSED next) _ (omega (arith, behind)) λ end.
         record {
           kind = kind;
           body = body;
@@ -167,8 +170,8 @@ module _ (bytes : List ℕ) (i : Index) (offsets plan : List ℕ) (s : State) wh
   unfolding onRecord
   record-says Missing e = omega arith
   record-says (Record kind body size next) e =
-      ask-says _ _ _ λ known.
-      ask-says _ _ _ λ fits.
+      ask-says _ _ _ (omega arith) λ known.
+      ask-says _ _ _ (omega arith) λ fits.
       cond-either Says (eqb kind 5) (closeTurn i plan s next) (stepTurn bytes i offsets s plan kind body next)
       (λ closing. close-says kind body size next e known fits closing)
       (λ step. step-says kind body size next (record { found = e; known = known; fits = fits; step = step }))
@@ -211,7 +214,7 @@ module _ (bytes : List ℕ) (i : Index) (offsets plan : List ℕ) (s : State) wh
       rw (e .found) (simp (e .known, e .fits, e .closing, eq-eqb _ _ (e .case), eq-eqb _ _ (e .end), e .count, e .same))
 
   -- a turn that refuses does so at its record, or right behind a closing one
-  pub refuses-near : (question place : ℕ) → turnOf bytes i offsets plan s ≡ stop (refused question place) → place ≤ s .at + 4
+  refuses-near : (question place : ℕ) → turnOf bytes i offsets plan s ≡ stop (refused question place) → Number question × (place ≤ s .at + 4)
   refuses-near question place e = rw e at turn-says
 
   -- the next record is behind this one
@@ -267,3 +270,38 @@ module _ (bytes : List ℕ) (i : Index) (offsets plan : List ℕ) where
     pub from-stops : (x : Result) → stop x ≡ turnOf bytes i offsets plan s → x ≡ whole
     unfolding after
     from-stops x e = rest (stop x) e
+
+-- a result within the step bound: no more steps than that; a refusal has the number of a question that is asked, and a place that the records of so
+-- many steps and the closing one reach
+abbrev pub Within : Index → Result → Type 0
+Within i (refused question place) = Number question × (place ≤ 9 * i .bounds .steps + 4)
+Within i (accepted steps bytes) = steps ≤ i .bounds .steps
+
+module _ (bytes : List ℕ) (t : Layout) (plan : List ℕ) where
+  -- question 13 has every step's record be nine bytes long, and question 14 has the steps be no more than the bound
+  record Read (s : State) : Type 0 where
+    read : s .at ≡ 9 * s .position .steps
+    few : s .position .steps ≤ t .index .bounds .steps
+
+  turn-within : (s : State) → Read s → (u : Turn State Result) → turnOf bytes (t .index) (t .offsets) plan s ≡ u → Keeps Read (Within (t .index)) u
+  unfolding lengthFits
+  turn-within s r (go v) e =
+      let w = goes-went bytes (t .index) (t .offsets) plan s v e in
+      let five = eqb-true (w .size) 5 (rw (w .read .step) at (w .read .fits)) in
+      omega (
+        arith,
+        record-ends plan (s .at) (w .kind) (w .body) (w .size) (w .next) (w .read .found),
+        ap (λ (x : State). x .at) (w .to),
+        ap (λ (x : State). x .position .steps) (w .to),
+        steps-grow bytes (t .index) (t .offsets) (s .position) (w .instruction) (w .position) (w .taken .moves),
+        w .taken .few,
+      )
+  turn-within s r (stop (refused question place)) e =
+      let h = refuses-near bytes (t .index) (t .offsets) plan s question place e in (h .0, omega (arith, h .1, r .read, r .few))
+  turn-within s r (stop (accepted steps program)) e =
+      omega (arith, accepts-ends bytes (t .index) (t .offsets) plan s steps program e .count, r .few)
+
+  pub follow-within : Within (t .index) (follow bytes t plan)
+  unfolding follow begin starting
+  follow-within =
+      loop-keeps Read (Within (t .index)) _ (left plan) _ (λ s r. turn-within s r _ refl) (omega arith) _ (omega arith)

@@ -29,14 +29,14 @@ use Rattle.step.specs.Position.{starting, top}
 use Rattle.step.specs.Questions.{STEPS}
 use Rattle.step.specs.declared.position.Position.{Position}
 use Rattle.step.proofs.Laws.Kept.{run-possible}
-use Rattle.step.proofs.Laws.Perform.{steps-grow, step-ran}
+use Rattle.step.proofs.Laws.Perform.{steps-grow, step-ran, step-number}
 use Rattle.step.proofs.Laws.Possible.{parts, case-open}
 use Rattle.checker.specs.Answer.{Result, refused, accepted}
 use Rattle.checker.specs.Check.{written}
 use Rattle.checker.specs.Plan.{PlanStep, recordOf}
 use Rattle.checker.specs.Write.{Writing, stepOn, onStep, writeTurn, stepsLeft, start, run}
 use Rattle.checker.specs.declared.plan.Step.{Step}
-use Rattle.checker.proofs.Laws.Turns.{Standing}
+use Rattle.checker.proofs.Laws.Turns.{Standing, Within}
 
 -- a step's record has 9 bytes, the closing one 4
 pub record-length : (s : PlanStep) → length (recordOf s) ≡ 9
@@ -179,23 +179,20 @@ module _ (bytes : List ℕ) (i : Index) (offsets program : List ℕ) where
       (λ u v. written-falls bytes i offsets u program v) s
 
   -- a run has at most S steps: those that it is accepted with, and those after which it stops
-  abbrev pub Within : Result → Type 0
-  Within (refused question place) = place ≤ i .bounds .steps
-  Within (accepted steps plan) = steps ≤ i .bounds .steps
+  abbrev Few : Writing → Type 0
+  Few s = s .position .steps ≤ i .bounds .steps
 
-  turn-within : (s : Writing) → s .position .steps ≤ i .bounds .steps
-      → Keeps (λ (u : Writing). u .position .steps ≤ i .bounds .steps) Within (writeTurn bytes i offsets program s)
-  turn-within s h = by (writeTurn bytes i offsets program s) refl
-    where
-      by : (u : Turn Writing Result) → writeTurn bytes i offsets program s ≡ u → Keeps (λ (u : Writing). u .position .steps ≤ i .bounds .steps) Within u
-      by (go u) e =
-          let w = goes-written bytes i offsets s program u e in
-          omega (arith, w .few, written-steps bytes i offsets s program u w)
-      by (stop (refused question place)) e = omega (arith, h, refuses-halted bytes i offsets s program question place e .count)
-      by (stop (accepted steps plan)) e = omega (arith, h, accepts-finished bytes i offsets s program steps plan e .count)
+  turn-within : (s : Writing) → Few s → (u : Turn Writing Result) → writeTurn bytes i offsets program s ≡ u → Keeps Few (Within i) u
+  turn-within s h (go u) e =
+      let w = goes-written bytes i offsets s program u e in
+      omega (arith, w .few, written-steps bytes i offsets s program u w)
+  turn-within s h (stop (refused question place)) e =
+      let r = refuses-halted bytes i offsets s program question place e in
+      (step-number bytes i offsets (s .position) program question (r .stops), omega (arith, h, r .count))
+  turn-within s h (stop (accepted steps plan)) e = omega (arith, h, accepts-finished bytes i offsets s program steps plan e .count)
 
-  pub run-within : (presets : List ℕ) → Within (run bytes (record { index = i; offsets = offsets; presets = presets }) program)
+  pub run-within : (presets : List ℕ) → Within i (run bytes (record { index = i; offsets = offsets; presets = presets }) program)
   unfolding run start starting
   run-within presets =
-      loop-keeps (λ (u : Writing). u .position .steps ≤ i .bounds .steps) Within (writeTurn bytes i offsets program) (stepsLeft i)
-      (refused STEPS 0) turn-within (omega arith) (start bytes i presets) (omega arith)
+      loop-keeps Few (Within i) (writeTurn bytes i offsets program) (stepsLeft i) (refused STEPS 0) (λ s h. turn-within s h _ refl) (omega arith)
+      (start bytes i presets) (omega arith)

@@ -94,7 +94,7 @@ module _ (bytes : List ℕ) (t : Layout) (program : List ℕ) where
 -- a step of the compiled task that makes the case's number grow begins the next case at its start, if there is one
 next-started : (bytes : List ℕ) (t : Layout) {f : Frame} {w : Instruction} {r r′ : Running} → Runs bytes t f w r r′ → (c : ℕ) → r .case + 1 ≡ c
     → r′ .case ≡ c → c < t .index .cases → r′ ≡ started bytes t c
-next-started bytes t (acts h k) c e g l = absurd (omega arith)
+next-started bytes t (acts h) c e g l = absurd (omega arith)
 next-started bytes t (jumps h) c e g l = absurd (omega arith)
 next-started bytes t (continues h) c e g l = absurd (omega arith)
 next-started bytes t (calls h) c e g l = absurd (omega arith)

@@ -168,10 +168,10 @@ module _ (old new : List ℕ) (c : Case) (longer : Longer old new c) where
     same-move : {w : Instruction} {v : Position} → Move old (t .index) (t .offsets) s w v → Known (t .index) w → 0 < v .depth
         → Move new (u .index) (u .offsets) s w v
     unfolding finished
-    same-move (acts {action} h k) known d =
+    same-move (acts {action} h) known d =
         let p = same-precondition action (known action refl) in
         let e = same-effects action (known action refl) in
-        rw (← e) (acts {action = action} (rw p h) (rw e k))
+        rw (← e) (acts {action = action} (rw p h))
     same-move (falls-through h) known d = falls-through h
     same-move (jumps h) known d = jumps h
     same-move (calls h) known d = calls (rw same-bounds h)
@@ -185,7 +185,7 @@ module _ (old new : List ℕ) (c : Case) (longer : Longer old new c) where
     new-move : {w : Instruction} {v : Position} → Move old (t .index) (t .offsets) s w v → 0 < s .depth → v .depth ≡ 0
         → Move new (u .index) (u .offsets) s w (reopened c v)
     unfolding jumped advanced pushed popped withFacts nextCase finished reopened
-    new-move (acts h k) above z = absurd (omega (arith, above, z))
+    new-move (acts h) above z = absurd (omega (arith, above, z))
     new-move (falls-through h) above z = absurd (omega (arith, above, z))
     new-move (jumps h) above z = absurd (omega (arith, above, z))
     new-move (calls h) above z = absurd (omega (arith, z))
@@ -258,7 +258,7 @@ module _ (old new : List ℕ) (c : Case) (longer : Longer old new c) where
           rw (x .after) (of (x .move) (λ e d. stays (sym same-w ∙ e, d)))
         where
           of : {w′ : Instruction} {v : Position} → Move old (t .index) (t .offsets) s w′ v → (w′ ≡ End → s .depth ≡ 1 → ⊥) → (0 < v .depth) × (v .case ≡ s .case)
-          of (acts h k) n = (above, refl)
+          of (acts h) n = (above, refl)
           of (falls-through h) n = (above, refl)
           of (jumps h) n = (above, refl)
           of (calls h) n = (omega arith, refl)

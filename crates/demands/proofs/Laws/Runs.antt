@@ -120,7 +120,7 @@ module _ (bytes : List ℕ) (t : Layout) (bound : t .index .bounds .stack ≤ 16
   move-runs : s .case < t .index .cases → {w : Instruction} {u : Position}
       → Move bytes (t .index) (t .offsets) s w u → Runs bytes t (top s) w (runningOf s) (runningOf u)
   unfolding withFacts advanced jumped pushed popped nextCase finished
-  move-runs h (Made.acts k l) = rw (top-first, stack-advanced) (acts k l)
+  move-runs h (Made.acts k) = rw (top-first, stack-advanced) (acts k)
   move-runs h (Made.falls-through k) = rw (top-first, stack-advanced) (continues k)
   move-runs h (Made.jumps k) = rw (top-first, stack-jumped) (jumps k)
   move-runs h (Made.calls {procedure} k) =
@@ -143,7 +143,7 @@ module _ (bytes : List ℕ) (t : Layout) (bound : t .index .bounds .stack ≤ 16
   rule-performs : {f : Frame} {w : Instruction} {r : Running} (rest : List Frame) → below s ≡ rest
       → Runs bytes t f w (record { case = s .case; facts = s .facts; stack = top s ∷ rest }) r → Performs bytes t s f w r
   unfolding withFacts advanced jumped pushed popped nextCase finished
-  rule-performs rest e (acts h k) = made (Made.acts h k) (rw (stack-advanced, e))
+  rule-performs rest e (acts h) = made (Made.acts h) (rw (stack-advanced, e))
   rule-performs rest e (jumps h) = made (Made.jumps h) (rw (stack-jumped, e))
   rule-performs rest e (continues h) = made (Made.falls-through h) (rw (stack-advanced, e))
   rule-performs rest e (calls h) =

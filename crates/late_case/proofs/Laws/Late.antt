@@ -4,6 +4,7 @@ use Prim.Native.Nat.{ℕ, zero, suc, _+_, _-_, _≤_, _<_}
 use mathlib.Core.Path.{_≡_, refl, sym, ap, _∙_}
 use mathlib.Core.Bool.{Bool, true, false}
 use mathlib.Core.List.{List, [], _∷_, _++_}
+use mathlib.Core.Logic.{_⊎_, inl, inr}
 use native.Mathlib.Decide.{decLt}
 use native.Mathlib.Omega.{arith}
 use lib.ListN.{length, take, drop, length-append, List·getD-eq-default}
@@ -12,6 +13,7 @@ use lib.Dec.{leb, ltb}
 use borrow.Author.Tests.{leb-true, ltb-true, lt-ltb, le-ltb, le-leb, lt-leb}
 use Rattle.records.specs.Numbers.{AreBytes, numberBytes}
 use Rattle.records.specs.Record.{recordBytes, closing}
+use Rattle.records.proofs.Laws.Tests.{cond-either}
 use Rattle.task.specs.Facts.{caseConsistent}
 use Rattle.task.specs.Questions.{SETS}
 use Rattle.task.specs.Reading.{readTask}
@@ -246,3 +248,26 @@ module _ (buffer : List ℕ) (given : ℕ) (new : Case) (run : Position) where
           → afterTask v (lateVerdict i run (length buffer - length (taskIn buffer given)) new (length (longerFile buffer given new))) ≡ Accepted n → Accepts n
       by (Accepted value) h f = record { value = value; passes = h; yes = late-yes i run _ new _ n (sym f); after = rw e refl }
       by (Refused question place) h f = absurd (refused-accepted f)
+
+-- the verdict has what the task's has, its own refusals, and an acceptance with the longer file's length
+module _ (Q : Verdict → Type 0) (buffer : List ℕ) (given : ℕ) (new : Case) (run : Position)
+    (refuses : (question : ℕ) → (question ≡ SETS) ⊎ (POSSIBLE ≤ question) → Q (Refused question 0)) where
+  asked-has : (answer : Bool) (question : ℕ) (rest : Verdict) → (question ≡ SETS) ⊎ (POSSIBLE ≤ question) → Q rest → Q (asked answer question rest)
+  unfolding asked
+  asked-has answer question rest n h = cond-either Q answer rest _ (λ e. h) (λ e. refuses question n)
+
+  pub add-has : Q (readTask (taskIn buffer given) .verdict)
+      → ((value : ℕ) → readTask (taskIn buffer given) .verdict ≡ Accepted value → Q (Accepted (length (longerFile buffer given new))))
+      → Q (addVerdict buffer given new run)
+  unfolding addVerdict lateVerdict afterTask
+  add-has task accepts = after (readTask (taskIn buffer given) .verdict) refl task
+    where
+      after : (v : Verdict) → readTask (taskIn buffer given) .verdict ≡ v → Q v
+          → Q (afterTask v (lateVerdict (readTask (taskIn buffer given) .layout .index) run (length buffer - length (taskIn buffer given)) new (length (longerFile buffer given new))))
+      after (Accepted value) e h =
+          asked-has _ _ _ (inr (omega arith))
+          (asked-has _ _ _ (inr (omega arith))
+          (asked-has _ _ _ (inr (omega arith))
+          (asked-has _ _ _ (inr (omega arith))
+          (asked-has _ _ _ (inl refl) (accepts value e)))))
+      after (Refused question place) e h = h

@@ -1,5 +1,5 @@
--- What is printed of any two files has at most 4,096 bytes. A verdict's numbers are short, because question 30 bounds the files; and only the program of a
--- task that passes is listed, so its bounds are in range.
+-- What is printed of any two files has at most 4,096 bytes. A verdict's numbers are short, because question 30 bounds the task's file and the task its
+-- steps; and only the program of a task that passes is listed, so its bounds are in range.
 -- Assumes nothing.
 use Prim.Native.Nat.{ℕ, _≤_, _<_, min}
 use mathlib.Core.Path.{_≡_, refl}
@@ -10,6 +10,8 @@ use lib.ListN.{length, replicate}
 use lib.Dec.{leb}
 use borrow.Author.Tests.{leb-true}
 use Rattle.records.proofs.Laws.Tests.{both-true, cond-either}
+use Rattle.task.proofs.Laws.Bounds.{ranges}
+use Rattle.task.proofs.Laws.Numbers.{task-said}
 use Rattle.task.proofs.Laws.Passed.{passed}
 use Rattle.task.specs.Bounds.{inRange, programSize}
 use Rattle.task.specs.Reading.{readTask}
@@ -20,10 +22,10 @@ use Rattle.task.specs.declared.verdict.Verdict.the-variants.{Accepted, Refused}
 use Rattle.checker.specs.Answer.{Answer, Result, refused, accepted, passing, answer}
 use Rattle.checker.specs.Check.{follow, check}
 use Rattle.checker.specs.Questions.{BUFFER}
+use Rattle.checker.proofs.Laws.Turns.{Within, follow-within}
 use Rattle.listing.proofs.Laws.Length.{report-most}
 use Rattle.listing.specs.Listing.{reportText}
 use Rattle.plan_files.specs.Files.{LONGEST, checkFiles, printed, PrintedFits}
-use Rattle.plan_files.proofs.Laws.Answers.{Short, Came, task-short, follow-short}
 
 -- a verdict of short numbers, which accepts for an index only if its bounds are in range and its actions as many as question 4 admits
 record Fine (i : Index) (v : Verdict) : Type 0 where
@@ -35,24 +37,28 @@ refused-fine : (i : Index) (question place : ℕ) → question < 100 → place �
 refused-fine i question place q p =
     record { number = q; value = omega arith; sound = λ steps e. let z : _≡_ {A = ℕ} 0 1 = cc in absurd (omega arith) }
 
-module _ (task plan : List ℕ) (t : length task ≤ LONGEST) (p : length plan ≤ LONGEST) (buffer : List ℕ) where
+module _ (task plan : List ℕ) (t : length task ≤ LONGEST) (buffer : List ℕ) where
+  most : (value : ℕ) → readTask task .verdict ≡ Accepted value → readTask task .layout .index .bounds .steps ≤ 4096
+  most value e = ranges _ (passed task value e .bounded) .steps .1
+
   -- what follows the task's verdict
-  passing-fine : (size : ℕ) (v : Verdict) → readTask task .verdict ≡ v → Short (length task) v → (rest : Result) → Came plan rest
-      → Fine (readTask task .layout .index) (answer size buffer (passing v rest) .verdict)
+  passing-fine : (size : ℕ) (v : Verdict) → readTask task .verdict ≡ v → (numberOf v ≤ 9) × (valueOf v ≤ length task) → (rest : Result)
+      → Within (readTask task .layout .index) rest → Fine (readTask task .layout .index) (answer size buffer (passing v rest) .verdict)
   unfolding passing answer
-  passing-fine size (Refused question place) e h rest c = refused-fine _ question place (h .0) (omega arith)
-  passing-fine size (Accepted value) e h (refused question place) c = refused-fine _ question place (c .0) (omega arith)
+  passing-fine size (Refused question place) e h rest c = refused-fine _ question place (omega (arith, h .0)) (omega (arith, h .1, t))
+  passing-fine size (Accepted value) e h (refused question place) c =
+      refused-fine _ question place (c .0 .1) (omega (arith, c .1, most value e))
   passing-fine size (Accepted value) e h (accepted steps program) c =
       let r = passed task value e in
-      record { number = omega arith; value = omega arith; sound = λ _ _. (r .bounded, r .actions) }
+      record { number = omega arith; value = omega (arith, c, most value e); sound = λ _ _. (r .bounded, r .actions) }
 
   check-fine : Fine (readTask task .layout .index) (check task plan buffer .verdict)
   unfolding check
   check-fine =
       let read = readTask task .layout in
-      passing-fine _ _ refl (task-short task) _
-      (cond-either (Came plan) (leb (programSize (read .index .bounds)) (length buffer)) (follow task read plan) (refused BUFFER 0)
-      (λ e. follow-short task read plan) (λ e. omega arith))
+      passing-fine _ _ refl (task-said task) _
+      (cond-either (Within (read .index)) (leb (programSize (read .index .bounds)) (length buffer)) (follow task read plan) (refused BUFFER 0)
+      (λ e. follow-within task read plan) (λ e. omega arith))
 
 printed-most : (task plan : List ℕ) → length (printed task plan) ≤ 3695
 unfolding printed checkFiles
@@ -63,7 +69,7 @@ printed-most task plan =
     cond-either (λ (a : Answer). length (reportText (a .verdict) i (a .buffer)) ≤ 3695) (leb (length task) LONGEST && leb (length plan) LONGEST) _ _
     (λ e.
     let h = both-true (leb (length task) LONGEST) (leb (length plan) LONGEST) e in
-    short _ (check-fine task plan (leb-true _ _ (h .0)) (leb-true _ _ (h .1)) (replicate 768 0)))
+    short _ (check-fine task plan (leb-true _ _ (h .0)) (replicate 768 0)))
     (λ e. short _ (refused-fine i _ _ (omega arith) (omega arith)))
 
 pub printed-fits : PrintedFits

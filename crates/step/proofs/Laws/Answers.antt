@@ -22,35 +22,29 @@ use Rattle.task.specs.declared.instruction.Instruction.the-variants.{Act, Goto,
 use Rattle.task.specs.declared.instruction.Decoded.{Decoded}
 use Rattle.task.specs.declared.instruction.Decoded.the-variants.{Is}
 use Rattle.task.specs.Program.{instructionOn}
-use Rattle.step.specs.Effects.{changesOf, clashFree, changed}
+use Rattle.step.specs.Effects.{changesOf, changed}
 use Rattle.step.specs.Facts.{holds}
 use Rattle.step.specs.Moved.{movedBy, performedAs}
 use Rattle.step.specs.Perform.{act, goto, call, afterCase, end, perform, performDecoded, runLine, runStep}
 use Rattle.step.specs.Position.{top, nextCase, finished, counted}
-use Rattle.step.specs.Questions.{STEPS, PRECONDITION, CLASH, STACK, GOAL}
+use Rattle.step.specs.Questions.{STEPS, PRECONDITION, STACK, GOAL}
 use Rattle.step.specs.declared.effects.Changes.{Changes}
 use Rattle.step.specs.declared.perform.Asked.{Asked}
 use Rattle.step.specs.declared.perform.Asked.the-variants.{No, Facts}
 use Rattle.step.specs.declared.position.Frame.{Frame}
 use Rattle.step.specs.declared.position.Position.{Position}
 
--- act: `h` says whether the precondition holds, `n` whether there is no clash
+-- act: `h` says whether the precondition holds
 module _ (bytes : List ℕ) (at facts : ℕ) (a : ActionFront) (e : a ≡ actionAt bytes at) (h : Bool) (f : h ≡ holds facts (a .precondition)) where
   pub act-refused : h ≡ false → (i : Index) (s : Position) (action : ℕ) → s .facts ≡ facts
       → performedAs bytes i s (Act action) (No PRECONDITION) ≡ act bytes at s
   unfolding act performedAs
   act-refused z i s action x = ask-no _ _ _ (cc)
 
-  module _ (y : h ≡ true) (c : Changes) (g : c ≡ changesOf facts (effectsOf bytes at)) (n : Bool) (k : n ≡ clashFree c) where
-    pub act-clashes : n ≡ false → (i : Index) (s : Position) (action : ℕ) → s .facts ≡ facts
-        → performedAs bytes i s (Act action) (No CLASH) ≡ act bytes at s
-    unfolding act performedAs
-    act-clashes z i s action x = ask-no _ _ _ (cc) ∙ ask-yes _ _ _ (cc)
-
-    pub act-moves : n ≡ true → (after : ℕ) → after ≡ changed facts c → (i : Index) (s : Position) (action : ℕ) → s .facts ≡ facts
-        → performedAs bytes i s (Act action) (Facts after) ≡ act bytes at s
-    unfolding act performedAs movedBy
-    act-moves z after j i s action x = cc (j, g, x) ∙ ask-yes _ _ _ (cc) ∙ ask-yes _ _ _ (cc)
+  pub act-moves : h ≡ true → (c : Changes) → c ≡ changesOf facts (effectsOf bytes at) → (after : ℕ) → after ≡ changed facts c
+      → (i : Index) (s : Position) (action : ℕ) → s .facts ≡ facts → performedAs bytes i s (Act action) (Facts after) ≡ act bytes at s
+  unfolding act performedAs movedBy
+  act-moves y c g after j i s action x = cc (j, g, x) ∙ ask-yes _ _ _ (cc)
 
 module _ (stack depth : ℕ) where
   pub call-refused : stack ≤ depth → (bytes : List ℕ) (i : Index) (s : Position) (procedure : Proc) → s .depth ≡ depth

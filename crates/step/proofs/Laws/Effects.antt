@@ -3,19 +3,17 @@
 -- Assumes nothing.
 use Prim.Native.Nat.{ℕ, zero, suc, _+_, _-_, _^_, _≤_, _<_}
 use mathlib.Core.Path.{_≡_, refl, sym, ap, _∙_}
-use mathlib.Core.Bool.{Bool, true, false, cond, not, _||_, or-assoc, or-false}
+use mathlib.Core.Bool.{Bool, true, false, cond, not, _&&_, _||_, or-assoc, or-false}
 use mathlib.Core.List.{List, _∷_}
 use native.Mathlib.Numerals.{add-one}
-use native.Mathlib.Nat.{lt-of-le-of-lt}
 use native.Mathlib.Omega.{arith}
-use lib.Bits.{bitAnd, bitOr, and-le-l, or-lt}
-use lib.Dec.{eqb}
+use lib.Bits.{bitOr, or-lt}
 use Rattle.task.specs.Index.{rowFrom, actionAt, effectAt, effectsOf}
 use Rattle.task.specs.declared.index.Effect.{Effect}
 use Rattle.step.specs.Facts.{has, setOf, holds}
-use Rattle.step.specs.Effects.{fired, someHas, changesOf, clashFree, trueAfter, changed}
+use Rattle.step.specs.Effects.{fired, someHas, changesOf, trueAfter, changed}
 use Rattle.step.specs.declared.effects.Changes.{Changes}
-use Rattle.step.proofs.Laws.Facts.{has-and, has-or, has-without, has-above, without, without-lt, word-set, set-below, word-none}
+use Rattle.step.proofs.Laws.Facts.{has-or, has-without, has-above, has-set, without, without-lt, word-set, set-below}
 
 -- a part of each effect: the facts that it raises, or those that it lowers
 module _ (bytes : List ℕ) (at state count : ℕ) (part : Effect → ℕ) where
@@ -57,18 +55,21 @@ module _ (bytes : List ℕ) (at state count : ℕ) (part : Effect → ℕ) where
       let k : count - e ≡ 0 = omega arith in
       word-set w _ (h .small) (λ f. sym (or-false (has w f)) ∙ (rw k at (h .found f)))
 
--- no fact is both raised and lowered when the two words have none in common
-pub clash-word : (c : Changes) → c .raised < 2 ^ 64 → eqb (bitAnd (c .raised) (c .lowered)) 0 ≡ clashFree c
-unfolding clashFree
-clash-word c h =
-    sym (word-none _ _ (lt-of-le-of-lt (and-le-l (c .raised) (c .lowered)) h) (λ f. ap not (sym (has-and (c .raised) (c .lowered) f))))
-
 -- the state afterwards, as a word
 pub changed-word : (state : ℕ) (c : Changes) → state < 2 ^ 64 → c .raised < 2 ^ 64 → bitOr (c .raised) (without state (c .lowered)) ≡ changed state c
 unfolding changed trueAfter
 changed-word state c h k =
     word-set _ _ (or-lt 64 _ _ k (without-lt 64 state (c .lowered) h))
     (λ f. has-or (c .raised) _ f ∙ ap (λ (b : Bool). has (c .raised) f || b) (has-without state (c .lowered) f))
+
+-- the state afterwards, fact by fact: what an effect that fires raises is true, whatever the others lower
+pub fact-after : (state : ℕ) (effects : List Effect) (f : ℕ) → f < 64
+    → has (changed state (changesOf state effects)) f
+    ≡ (someHas (λ e. e .raised) (fired state effects) f || (has state f && not (someHas (λ e. e .lowered) (fired state effects) f)))
+unfolding changed trueAfter changesOf
+fact-after state effects f l =
+    has-set _ 64 f l
+    ∙ λ i. has-set (someHas (λ e. e .raised) (fired state effects)) 64 f l i || (has state f && not (has-set (someHas (λ e. e .lowered) (fired state effects)) 64 f l i))
 
 -- what is made of sets of facts below a number is such a set
 module _ (k state : ℕ) where

@@ -1,16 +1,16 @@
 -- Facts in words: a set's bits are its facts, so a word is the set of a test that agrees with its bits, and a test that says no to each
 -- of its bits says yes at every fact exactly when the word is 0. Each bit operation acts on every fact by itself.
 -- Assumes nothing.
-use Prim.Native.Nat.{ℕ, zero, suc, _+_, _*_, _/_, _%_, _^_, _≤_, _<_}
+use Prim.Native.Nat.{ℕ, zero, suc, _+_, _-_, _*_, _/_, _%_, _^_, _≤_, _<_}
 use mathlib.Core.Path.{_≡_, refl, sym, ap, _∙_}
 use mathlib.Core.Bool.{Bool, true, false, cond, not, _&&_, _||_, and-true, and-false}
-use native.Mathlib.Nat.{mod-lt, mod-one, mod-eq-of-lt, div-eq-of-lt, lt-of-lt-of-le, lt-of-le-of-lt, pow-suc, add-comm, add-zero}
-use native.Mathlib.Numerals.{add-one}
-use native.Mathlib.Decide.{ℕ-discrete, decLe}
+use native.Mathlib.Nat.{mod-lt, mod-one, mod-eq-of-lt, div-eq-of-lt, add-div-right, add-mul-mod-self-right, lt-of-lt-of-le, lt-of-le-of-lt, pow-suc, add-comm, add-zero}
+use native.Mathlib.Numerals.{add-one, one-add}
+use native.Mathlib.Decide.{ℕ-discrete, decLe, le-ind}
 use native.Mathlib.Omega.{arith}
 use lib.Bits.{bitAnd, bitOr, bitXor, and-shr, and-mod, or-shr, or-mod, xor-shr, xor-mod, and-le-l, or-lt, xor-lt}
 use lib.Dec.{eqb}
-use lib.Pow.{pow-pos, pow-mono, mod-pow-add}
+use lib.Pow.{pow-pos, pow-mono, pow-add, mod-pow-add, field}
 use borrow.Author.Tests.{ne-eqb}
 use Rattle.records.proofs.Laws.Tests.{both-true}
 use Rattle.task.specs.declared.facts.Literals.{Literals}
@@ -95,6 +95,30 @@ set-lt (suc n) test = more (test n) (set-lt n test)
     more : (b : Bool) → setOf n test < 2 ^ n → setOf n test + cond b (2 ^ n) 0 < 2 ^ suc n
     more true h = omega (arith, pow-suc 2 n)
     more false h = omega (arith, pow-suc 2 n)
+
+-- of the facts below n, the set of those at which a test says yes has exactly these
+module _ (test : ℕ → Bool) where
+  set-low : (m n : ℕ) → m ≤ n → setOf n test % 2 ^ m ≡ setOf m test
+  unfolding setOf
+  set-low m = le-ind (λ (n : ℕ). setOf n test % 2 ^ m ≡ setOf m test) (mod-eq-of-lt (set-lt m test)) (λ n l e. above n l (test n) ∙ e)
+    where
+      above : (n : ℕ) → m ≤ n → (b : Bool) → (setOf n test + cond b (2 ^ n) 0) % 2 ^ m ≡ setOf n test % 2 ^ m
+      above n l true =
+          let e : n ≡ n - m + m = omega arith in
+          ap (λ (k : ℕ). (setOf n test + k) % 2 ^ m) (ap (λ (k : ℕ). 2 ^ k) e ∙ pow-add 2 (n - m) m)
+          ∙ add-mul-mod-self-right (setOf n test) (2 ^ (n - m)) (2 ^ m)
+      above n l false = ap (λ (k : ℕ). k % 2 ^ m) (add-zero (setOf n test))
+
+  pub has-set : (n f : ℕ) → f < n → has (setOf n test) f ≡ test f
+  unfolding has setOf
+  has-set n f l =
+      ap (λ (k : ℕ). eqb k 1)
+      (sym (field (setOf n test) 1 f) ∙ ap (λ (k : ℕ). k / 2 ^ f) (ap (λ (k : ℕ). setOf n test % 2 ^ k) (one-add f) ∙ set-low (suc f) n l))
+      ∙ top (test f)
+    where
+      top : (b : Bool) → eqb ((setOf f test + cond b (2 ^ f) 0) / 2 ^ f) 1 ≡ b
+      top true = ap (λ (k : ℕ). eqb k 1) (add-div-right (setOf f test) (pow-pos f) ∙ ap (λ (k : ℕ). k + 1) (div-eq-of-lt (set-lt f test)))
+      top false = ap (λ (k : ℕ). eqb k 1) (ap (λ (k : ℕ). k / 2 ^ f) (add-zero (setOf f test)) ∙ div-eq-of-lt (set-lt f test))
 
 -- a test that says yes below a number alone has a set of facts below it
 pub set-below : (k n : ℕ) (test : ℕ → Bool) → ((f : ℕ) → k ≤ f → test f ≡ false) → setOf n test < 2 ^ k

@@ -190,7 +190,7 @@ module _ (bytes : List ℕ) (t : Layout) (passed : Passed bytes t) where
   module _ (s : Position) (sound : Sound i s) (above : 0 < s .depth) where
     move-sound : {w : Instruction} {u : Position} → Move bytes i (t .offsets) s w u → Allowed (i .bounds) (i .actions) (top s .line) w → Sound i u
     unfolding advanced jumped
-    move-sound (acts {action} h k) a =
+    move-sound (acts {action} h) a =
         facts-sound i _ (advanced-sound i s sound r above (a .0)) _ (facts-below s action (sound .parts .facts) (a .1))
     move-sound (falls-through h) a = advanced-sound i s sound r above (a .0)
     move-sound (jumps {target} h) a = jumped-sound i s sound r above target (a .1)

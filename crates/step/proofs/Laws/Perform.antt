@@ -1,6 +1,6 @@
 -- What an instruction that does not stop has done: one of seven moves, whose questions said yes, and one step more is counted. So each law of
 -- a step looks at the seven moves alone: every step counts one, the case grows only at an end with one frame, and there it does; and a move
--- whose questions say yes is made, so a step is determined by them.
+-- whose questions say yes is made, so a step is determined by them. One that stops has the number of a question that is asked, and 20 is none.
 -- Assumes nothing.
 use Prim.Native.Nat.{ℕ, _+_, _≤_, _<_}
 use mathlib.Core.Path.{_≡_, refl, ap, _∙_}
@@ -11,7 +11,7 @@ use native.Mathlib.Omega.{arith}
 use lib.Dec.{ltb}
 use lib.ListN.{getD}
 use borrow.Author.Tests.{ltb-true, ltb-false}
-use Rattle.records.specs.Loop.{Turn, go, ask}
+use Rattle.records.specs.Loop.{Turn, stop, go, ask}
 use Rattle.records.proofs.Laws.Loop.{stop-go, Keeps, ask-keeps}
 use Rattle.records.proofs.Laws.Tests.{cond-either, cond-yes, cond-no}
 use Rattle.task.specs.Index.{actionAt, effectsOf, caseAt}
@@ -23,12 +23,12 @@ use Rattle.task.specs.declared.instruction.Instruction.{Instruction}
 use Rattle.task.specs.declared.instruction.Instruction.the-variants.{Empty, Act, Goto, Call, End}
 use Rattle.task.specs.declared.instruction.Decoded.{Decoded}
 use Rattle.task.specs.declared.instruction.Decoded.the-variants.{Is, Nothing}
-use Rattle.step.specs.Effects.{changesOf, clashFree, changed}
+use Rattle.step.specs.Effects.{changesOf, changed}
 use Rattle.step.specs.Facts.{has, holds}
 use Rattle.step.specs.Perform.{act, goto, call, afterCase, end, perform, performDecoded, runLine, runStep}
 use Rattle.step.specs.Moved.{movedBy, performedAs}
 use Rattle.step.specs.Position.{top, jumped, advanced, pushed, popped, withFacts, nextCase, finished, counted}
-use Rattle.step.specs.Questions.{STEPS}
+use Rattle.step.specs.Questions.{STEPS, CLASH, EMPTY}
 use Rattle.step.specs.declared.position.Position.{Position}
 use Rattle.step.proofs.Laws.Answers.{act-moves, call-pushes, case-follows, none-follows, frames-many, frames-one, end-pops, end-closes, performs-act, performs-goto, performs-call, performs-end}
 
@@ -36,7 +36,6 @@ use Rattle.step.proofs.Laws.Answers.{act-moves, call-pushes, case-follo
 pub data Move (bytes : List ℕ) (i : Index) (offsets : List ℕ) (s : Position) : Instruction → Position → Type 0 where
   acts : {action : ℕ}
       → holds (s .facts) (actionAt bytes (getD offsets action 0) .precondition) ≡ true
-      → clashFree (changesOf (s .facts) (effectsOf bytes (getD offsets action 0))) ≡ true
       → Move bytes i offsets s (Act action)
       (withFacts (advanced s) (changed (s .facts) (changesOf (s .facts) (effectsOf bytes (getD offsets action 0)))))
   falls-through : {target : Line} {fact : ℕ} → has (s .facts) fact ≡ true → Move bytes i offsets s (Goto target fact) (advanced s)
@@ -48,6 +47,10 @@ pub data Move (bytes : List ℕ) (i : Index) (offsets : List ℕ) (s : Position)
   finishes : s .depth ≤ 1 → holds (s .facts) (caseAt bytes (i .first) (s .case) .goal) ≡ true → i .cases ≤ s .case + 1
       → Move bytes i offsets s End (finished s)
 
+-- the number of a question that is asked: it is not 0, has two digits at most, and is not 20
+abbrev pub Number : ℕ → Type 0
+Number question = (0 < question) × (question < 100) × (question ≡ CLASH → ⊥)
+
 module _ (bytes : List ℕ) (i : Index) (offsets : List ℕ) (s : Position) where
   -- a position that an instruction goes to: it made a move, and the step is counted
   pub record Moved (w : Instruction) (t : Position) : Type 0 where
@@ -56,24 +59,25 @@ module _ (bytes : List ℕ) (i : Index) (offsets : List ℕ) (s : Position) wher
     pub after : t ≡ counted to
 
   abbrev Goes : Instruction → Turn Position ℕ → Type 0
-  Goes w = Keeps (Moved w) (λ q. Unit {0})
+  Goes w = Keeps (Moved w) Number
 
   one : {w : Instruction} {u : Position} → Move bytes i offsets s w u → Moved w (counted u)
   one m = record { to = _; move = m; after = refl }
 
-  ask-goes : (w : Instruction) (answer : Bool) (question : ℕ) (rest : Turn Position ℕ) → (answer ≡ true → Goes w rest) → Goes w (ask answer question rest)
-  ask-goes w answer question rest k = ask-keeps (Moved w) (λ q. Unit {0}) answer question rest tt k
+  ask-goes : (w : Instruction) (answer : Bool) (question : ℕ) (rest : Turn Position ℕ) → Number question → (answer ≡ true → Goes w rest)
+      → Goes w (ask answer question rest)
+  ask-goes w answer question rest n k = ask-keeps (Moved w) Number answer question rest n k
 
   goes : (w : Instruction) → Goes w (perform bytes i offsets s w)
   unfolding perform act goto call end afterCase
-  goes Empty = tt
-  goes (Act action) = ask-goes _ _ _ _ λ h. ask-goes _ _ _ _ λ k. one (acts h k)
+  goes Empty = omega arith
+  goes (Act action) = ask-goes _ _ _ _ (omega arith) λ h. one (acts h)
   goes (Goto target fact) =
       cond-either (λ (u : Position). Moved (Goto target fact) (counted u)) _ _ _ (λ h. one (falls-through h)) (λ h. one (jumps h))
-  goes (Call procedure) = ask-goes _ _ _ _ λ h. one (calls (ltb-true (s .depth) (i .bounds .stack) h))
+  goes (Call procedure) = ask-goes _ _ _ _ (omega arith) λ h. one (calls (ltb-true (s .depth) (i .bounds .stack) h))
   goes End =
       cond-either (Goes End) _ _ _ (λ h. one (returns (ltb-true 1 (s .depth) h)))
-      (λ h. ask-goes _ _ _ _ λ k.
+      (λ h. ask-goes _ _ _ _ (omega arith) λ k.
       cond-either (λ (u : Position). Moved End (counted u)) _ _ _
       (λ l. one (begins (ltb-false 1 (s .depth) h) k (ltb-true (s .case + 1) (i .cases) l)))
       (λ l. one (finishes (ltb-false 1 (s .depth) h) k (ltb-false (s .case + 1) (i .cases) l))))
@@ -81,7 +85,7 @@ module _ (bytes : List ℕ) (i : Index) (offsets : List ℕ) (s : Position) wher
   -- a move counts nothing
   pub move-steps : {w : Instruction} {u : Position} → Move bytes i offsets s w u → u .steps ≡ s .steps
   unfolding jumped advanced pushed popped withFacts nextCase finished
-  move-steps (acts h k) = refl
+  move-steps (acts h) = refl
   move-steps (falls-through h) = refl
   move-steps (jumps h) = refl
   move-steps (calls h) = refl
@@ -93,7 +97,7 @@ module _ (bytes : List ℕ) (i : Index) (offsets : List ℕ) (s : Position) wher
   move-case : {w : Instruction} {u : Position} → Move bytes i offsets s w u → 0 < s .depth
       → (u .case ≡ s .case) ⊎ ((w ≡ End) × (s .depth ≡ 1) × (u .case ≡ s .case + 1))
   unfolding jumped advanced pushed popped withFacts nextCase finished
-  move-case (acts h k) a = inl refl
+  move-case (acts h) a = inl refl
   move-case (falls-through h) a = inl refl
   move-case (jumps h) a = inl refl
   move-case (calls h) a = inl refl
@@ -125,6 +129,19 @@ module _ (bytes : List ℕ) (i : Index) (offsets : List ℕ) (s : Position) wher
       closed (begins h k l) = refl
       closed (finishes h k l) = refl
 
+  -- an instruction that stops has such a number, and so has a step of a program
+  pub stop-number : (w : Instruction) (question : ℕ) → perform bytes i offsets s w ≡ stop question → Number question
+  stop-number w question e = rw e at (goes w)
+
+  pub step-number : (program : List ℕ) (question : ℕ) → runStep bytes i offsets program s ≡ stop question → Number question
+  unfolding runStep runLine performDecoded ask
+  step-number program question h = on (ltb (s .steps) (i .bounds .steps)) (instructionOn i program (top s .procedure) (top s .line)) h
+    where
+      on : (b : Bool) (d : Decoded) → ask b STEPS (performDecoded bytes i offsets s d) ≡ stop question → Number question
+      on true (Is w) k = stop-number w question k
+      on true Nothing k = let z : EMPTY ≡ question = cc in omega (arith, z)
+      on false d k = let z : STEPS ≡ question = cc in omega (arith, z)
+
   -- a move whose questions say yes is made, so a step is determined by them
   -- a step to a position
   abbrev steps : Position → Turn Position ℕ
@@ -138,7 +155,7 @@ module _ (bytes : List ℕ) (i : Index) (offsets : List ℕ) (s : Position) wher
 
   pub moves : {w : Instruction} {u : Position} → Move bytes i offsets s w u → go (counted u) ≡ perform bytes i offsets s w
   unfolding performedAs movedBy
-  moves (acts {action} h k) = act-moves bytes _ (s .facts) _ refl _ refl h _ refl _ refl k _ refl i s action refl ∙ performs-act bytes i offsets s _ _ refl
+  moves (acts {action} h) = act-moves bytes _ (s .facts) _ refl _ refl h _ refl _ refl i s action refl ∙ performs-act bytes i offsets s _ _ refl
   moves (falls-through h) = ap steps (cond-yes _ _ _ _ refl h) ∙ performs-goto bytes i offsets s _ _ _ 0 refl
   moves (jumps h) = ap steps (cond-no _ _ _ _ refl h) ∙ performs-goto bytes i offsets s _ _ _ 0 refl
   moves (calls h) = call-pushes _ _ h 0 bytes i s _ refl ∙ performs-call bytes i offsets s _ _ refl

@@ -1,8 +1,8 @@
 -- The single step, answer by answer; that a finished run stays as it is, that a refusal changes nothing, and that 0 and 1 say that one step
--- was made, to a possible position.
+-- was made, to a possible position; and what its verdict can be.
 -- Assumes nothing.
 use Prim.Native.Nat.{ℕ, _+_, _≤_, _<_}
-use mathlib.Core.Path.{_≡_, refl, sym, ap, _∙_}
+use mathlib.Core.Path.{_≡_, refl, sym, ap, subst, _∙_}
 use mathlib.Core.Bool.{Bool, true, false}
 use mathlib.Core.List.{List}
 use native.Mathlib.Omega.{arith}
@@ -29,7 +29,8 @@ use Rattle.step.specs.declared.perform.Stepped.{Stepped}
 use Rattle.step.specs.declared.position.Position.{Position}
 use Rattle.step.proofs.Laws.Answers.{steps-used, steps-left}
 use Rattle.step.proofs.Laws.Kept.{run-possible}
-use Rattle.step.proofs.Laws.Perform.{step-ran, ran-steps}
+use Rattle.step.proofs.Laws.Perform.{Number, step-ran, ran-steps, step-number}
+use Rattle.step.proofs.Laws.Possible.{parts}
 
 -- task and program passed: `h` says whether the position is possible
 module _ (bytes : List ℕ) (i : Index) (offsets program : List ℕ) (s : Position) (h : Bool) (e : h ≡ possible i s) where
@@ -93,16 +94,23 @@ module _ (bytes program : List ℕ) (s : Position) where
     pub unfinished : 0 < s .depth
     pub ran : runStep bytes (t .index) (t .offsets) program s ≡ go u
 
+  -- a refusal: the task's, the program's, or where both pass that of a question that is asked, 31 or after at most S steps
+  pub data Refuses (question place : ℕ) : Type 0 where
+    of-task : readTask bytes .verdict ≡ Refused question place → Refuses question place
+    of-program : Passed bytes t → programVerdict (t .index) (t .presets) program ≡ Refused question place → Refuses question place
+    of-run : Passed bytes t → Number question → place ≤ t .index .bounds .steps → Refuses question place
+
   -- its answers: a refusal, or the finish, at the position as it was, or a step that was made
   pub data Answers : Stepped → Type 0 where
-    refuses : (question place : ℕ) → Answers (unchanged s (Refused question place))
+    refuses : (question place : ℕ) → Refuses question place → Answers (unchanged s (Refused question place))
     stays : Answers (unchanged s (Accepted 0))
     makes : (u : Position) → Made u → Answers (record { verdict = Accepted 1; position = u })
 
   turn-answers : Passed bytes t → possible (t .index) s ≡ true → 0 < s .depth → (u : Turn Position ℕ)
       → runStep bytes (t .index) (t .offsets) program s ≡ u → Answers (answered s u)
   unfolding answered
-  turn-answers h p d (stop question) e = refuses question (s .steps)
+  turn-answers h p d (stop question) e =
+      refuses question (s .steps) (of-run h (step-number bytes (t .index) (t .offsets) s program question e) (parts (t .index) s p .steps))
   turn-answers h p d (go next) e = makes next (record { passes = h; possible = p; unfinished = d; ran = e })
 
   once-answers : Passed bytes t → Answers (stepOnce bytes (t .index) (t .offsets) program s)
@@ -110,26 +118,30 @@ module _ (bytes program : List ℕ) (s : Position) where
   once-answers h =
       cond-either Answers _ _ _
       (λ p. cond-either Answers (eqb (s .depth) 0) _ _ (λ z. stays) (λ z. turn-answers h p (omega (arith, eqb-false (s .depth) 0 z)) _ refl))
-      (λ z. refuses POSSIBLE 0)
+      (λ z. refuses POSSIBLE 0 (of-run h (omega arith) (omega arith)))
 
-  following-answers : (v : Verdict) (rest : Stepped) → ((value : ℕ) → v ≡ Accepted value → Answers rest) → Answers (following s v rest)
+  following-answers : (v : Verdict) (rest : Stepped) → ((question place : ℕ) → v ≡ Refused question place → Refuses question place)
+      → ((value : ℕ) → v ≡ Accepted value → Answers rest) → Answers (following s v rest)
   unfolding following
-  following-answers (Accepted value) rest h = h value refl
-  following-answers (Refused question place) rest h = refuses question place
+  following-answers (Accepted value) rest k h = h value refl
+  following-answers (Refused question place) rest k h = refuses question place (k question place refl)
 
   pub single-answers : Answers (singleStep bytes program s)
   unfolding singleStep onReading
-  single-answers = following-answers _ _ (λ v e. following-answers _ _ (λ w f. once-answers (passed bytes v e)))
+  single-answers =
+      following-answers _ _ (λ question place. of-task) λ v e.
+      following-answers _ _ (λ question place. of-program (passed bytes v e)) λ w f.
+      once-answers (passed bytes v e)
 
   refused-stays : (r : Stepped) → Answers r → (question place : ℕ) → r .verdict ≡ Refused question place → r .position ≡ s
   unfolding unchanged
-  refused-stays r (refuses q p) question place e = refl
+  refused-stays r (refuses q p y) question place e = refl
   refused-stays r stays question place e = refl
   refused-stays r (makes u m) question place e = absurd (refused-accepted (sym e))
 
   made-moves : (r : Stepped) → Answers r → r .verdict ≡ Accepted 1 → Made (r .position)
   unfolding unchanged
-  made-moves r (refuses question place) e = absurd (refused-accepted e)
+  made-moves r (refuses question place y) e = absurd (refused-accepted e)
   made-moves r stays e = absurd (omega (arith, ap valueOf e))
   made-moves r (makes u m) e = m
 
@@ -149,3 +161,20 @@ module _ (bytes program : List ℕ) (s : Position) where
       let m = single-made h in
       let kept = run-possible bytes t (m .passes) s (m .possible) (m .unfinished) room program _ (m .ran) in
       (kept .0, kept .1, ran-steps bytes _ _ s program _ (step-ran bytes _ _ s program _ (m .ran) .1))
+
+  -- so its verdict has what the task's and the program's have, 0 and 0 and 0 and 1, and a refusal of a question that is asked after at most S steps
+  pub single-has : (Q : Verdict → Type 0) → Q (readTask bytes .verdict)
+      → (Passed bytes (readTask bytes .layout) → Q (programVerdict (readTask bytes .layout .index) (readTask bytes .layout .presets) program))
+      → ((value : ℕ) → value ≤ 1 → Q (Accepted value))
+      → ((question place : ℕ) → Passed bytes (readTask bytes .layout) → Number question → place ≤ readTask bytes .layout .index .bounds .steps
+      → Q (Refused question place))
+      → Q (singleStep bytes program s .verdict)
+  unfolding unchanged
+  single-has Q task own acceptance refusal = by _ single-answers
+    where
+      by : (r : Stepped) → Answers r → Q (r .verdict)
+      by r (refuses question place (of-task e)) = subst Q e task
+      by r (refuses question place (of-program h e)) = subst Q e (own h)
+      by r (refuses question place (of-run h n l)) = refusal question place h n l
+      by r stays = acceptance 0 (omega arith)
+      by r (makes u m) = acceptance 1 (omega arith)

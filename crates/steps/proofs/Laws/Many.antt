@@ -1,30 +1,34 @@
 -- A call for a number of steps, by what is asked first: the task's verdict, the program's, question 31; and what a call is admitted with. A position that
 -- a function is passed has 16 frames.
 -- Assumes nothing.
-use Prim.Native.Nat.{ℕ, _≤_}
+use Prim.Native.Nat.{ℕ, zero, suc, _+_, _≤_}
 use mathlib.Core.Path.{_≡_, refl, sym, ap, _∙_}
 use mathlib.Core.Bool.{Bool, true, false}
 use mathlib.Core.List.{List}
 use native.Mathlib.Decide.{decLt}
 use native.Mathlib.Omega.{arith}
 use lib.ListN.{length, length-map}
+use lib.Dec.{eqb}
 use borrow.Author.Tests.{lt-ltb, le-ltb}
 use mir.Val.{Val}
 use denote.Laws.{Is}
 use denote.Struct.Laws as LL
-use Rattle.records.proofs.Laws.Tests.{cond-yes, cond-no}
+use Rattle.records.proofs.Laws.Tests.{cond-either, cond-yes, cond-no}
 use Rattle.task.specs.Program.{programVerdict}
 use Rattle.task.specs.Reading.{readTask}
 use Rattle.task.specs.declared.reading.Reading.{Reading}
 use Rattle.task.specs.declared.verdict.Verdict.{Verdict}
 use Rattle.task.specs.declared.verdict.Verdict.the-variants.{Accepted, Refused}
+use Rattle.task.proofs.Laws.Passed.{Passed, passed}
 use Rattle.step.specs.Possible.{possible}
 use Rattle.step.specs.Questions.{POSSIBLE}
+use Rattle.step.specs.Single.{singleStep}
 use Rattle.step.specs.declared.position.Position.{Position}
 use Rattle.step.proofs.position.Position as P
 use Rattle.step.proofs.position.Position.Laws as P′
 use Rattle.steps.specs.Many.{capped, takenTo, onward, stepsFrom, manyOnReading, manySteps}
 use Rattle.steps.specs.Running.{Admitted}
+use Rattle.steps.specs.declared.many.StepsTaken.{StepsTaken}
 
 pub sixteen : (s : Position) (vs : List Val) → Is P.the-row s vs → length (s .frames) ≡ 16
 sixteen s vs is = sym (length-map (s .frames) _) ∙ LL.owed P.the-type P′.the-laws s vs is .1 .1 .1 .1 .0 .1 .0 .1
@@ -88,3 +92,32 @@ module _ (bytes program : List ℕ) (r : Reading) (v : Verdict) (b : BothPass by
         possible = sym f ∙ y;
         frames = size;
       }
+
+-- the verdict of a number of steps has what the task's and the program's have, 31 at 0, any single step's, and an acceptance
+module _ (Q : Verdict → Type 0) (bytes program : List ℕ) where
+  abbrev Taken : StepsTaken → Type 0
+  Taken r = Q (r .answer .verdict)
+
+  onward-has : (made : ℕ) (s : Position) (v : Verdict) (rest : ℕ → StepsTaken) → Q v → ((value : ℕ) → v ≡ Accepted value → Taken (rest value))
+      → Taken (onward made s v rest)
+  unfolding onward takenTo
+  onward-has made s (Accepted value) rest h k = k value refl
+  onward-has made s (Refused question place) rest h k = h
+
+  module _ (accepts : (made : ℕ) → Q (Accepted made)) (single : (s : Position) → Q (singleStep bytes program s .verdict)) where
+    from-has : (n made : ℕ) (s : Position) → Taken (stepsFrom bytes program n made s)
+    unfolding stepsFrom takenTo
+    from-has zero made s = accepts made
+    from-has (suc n) made s =
+        onward-has made s _ _ (single s) λ value e.
+        cond-either Taken (eqb value 0) _ _ (λ z. accepts made) (λ z. from-has n (made + 1) _)
+
+    pub many-has : Q (readTask bytes .verdict)
+        → (Passed bytes (readTask bytes .layout) → Q (programVerdict (readTask bytes .layout .index) (readTask bytes .layout .presets) program))
+        → Q (Refused POSSIBLE 0) → (count : ℕ) (s : Position) → Q (manySteps bytes program count s .answer .verdict)
+    unfolding manySteps manyOnReading takenTo
+    many-has task own impossible count s =
+        let t = readTask bytes .layout in
+        onward-has 0 s (readTask bytes .verdict) _ task λ value e.
+        onward-has 0 s (programVerdict (t .index) (t .presets) program) _ (own (passed bytes value e)) λ _ _.
+        cond-either Taken (possible (t .index) s) _ _ (λ y. from-has _ 0 s) (λ n. impossible)

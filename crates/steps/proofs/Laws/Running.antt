@@ -2,7 +2,7 @@
 -- the whole comes to.
 -- Assumes nothing.
 use Prim.Native.Nat.{ℕ, suc, _+_, _-_, _≤_, _<_}
-use mathlib.Core.Path.{_≡_, refl, sym, ap, subst, _∙_}
+use mathlib.Core.Path.{_≡_, refl, sym, ap, _∙_}
 use mathlib.Core.Bool.{Bool, true, false, _&&_}
 use mathlib.Core.List.{List}
 use native.Mathlib.Decide.{ℕ-discrete, decLt}
@@ -11,8 +11,7 @@ use lib.ListN.{length, getD, set, length-set}
 use lib.Seq.{getD-set-same, getD-set-other, set-getD, set-set}
 use lib.Dec.{eqb, ltb}
 use borrow.Author.Tests.{lt-ltb, le-ltb, ltb-true, ltb-false, eqb-true, eq-eqb, ne-eqb}
-use Rattle.records.proofs.Laws.Tests.{both-true, cond-either, cond-yes, cond-no}
-use Rattle.records.specs.Loop.{Turn, stop, go, ask}
+use Rattle.records.proofs.Laws.Tests.{both-true, cond-yes, cond-no}
 use Rattle.task.specs.Program.{instructionOn}
 use Rattle.task.specs.Reading.{readTask}
 use Rattle.task.specs.declared.index.Index.{Index}
@@ -26,7 +25,7 @@ use Rattle.task.proofs.Laws.Bounds.{ranges}
 use Rattle.task.proofs.Laws.Passed.{Passed, passed}
 use Rattle.step.specs.Head.{headOf, topOf, leftBy, stored, countedHead, endedHead, movedHead}
 use Rattle.step.specs.Moved.{performedAs}
-use Rattle.step.specs.Perform.{act, goto, call, end, perform, runLine, unchanged, answered}
+use Rattle.step.specs.Perform.{perform, runLine, unchanged, answered}
 use Rattle.step.specs.Position.{origin, top}
 use Rattle.step.specs.Possible.{possible}
 use Rattle.step.specs.Questions.{STEPS}
@@ -39,6 +38,7 @@ use Rattle.step.specs.declared.perform.Stepped.{Stepped}
 use Rattle.step.specs.declared.position.Frame.{Frame}
 use Rattle.step.specs.declared.position.Position.{Position}
 use Rattle.step.proofs.Laws.Moved.{asked-no, line-refused, line-moves}
+use Rattle.step.proofs.Laws.Perform.{stop-number}
 use Rattle.step.proofs.Laws.Possible.{parts}
 use Rattle.step.proofs.Laws.Ready.{passed-held, possible-depth}
 use Rattle.step.proofs.Laws.Single.{step-finished, step-late, step-lines, both-passed, single-possible}
@@ -84,24 +84,6 @@ module _ (h : Head) (frames : List Frame) (size : length frames ≡ 16) (d : h .
   over-below : 1 < h .depth → getD frames (h .depth - 1 - 1) origin ≡ getD (over h frames .frames) (h .depth - 1 - 1) origin
   unfolding over
   over-below l = sym (getD-set-other frames (h .depth - 1) (h .depth - 1 - 1) (topOf h) origin (omega (arith, l)))
-
--- a question that stops an instruction is not 0
-unfoldable Numbered : Turn Position ℕ → Type 0
-Numbered (stop question) = 0 < question
-Numbered (go next) = Unit {0}
-
-ask-numbered : (b : Bool) (question : ℕ) → 0 < question → (rest : Turn Position ℕ) → Numbered rest → Numbered (ask b question rest)
-unfolding ask Numbered
-ask-numbered true question l rest h = h
-ask-numbered false question l rest h = l
-
-perform-numbered : (bytes : List ℕ) (i : Index) (offsets : List ℕ) (s : Position) (w : Instruction) → Numbered (perform bytes i offsets s w)
-unfolding perform act goto call end Numbered
-perform-numbered bytes i offsets s Empty = omega arith
-perform-numbered bytes i offsets s (Act action) = ask-numbered _ _ (omega arith) _ (ask-numbered _ _ (omega arith) _ tt)
-perform-numbered bytes i offsets s (Goto target fact) = tt
-perform-numbered bytes i offsets s (Call procedure) = ask-numbered _ _ (omega arith) _ tt
-perform-numbered bytes i offsets s End = cond-either Numbered (ltb 1 (s .depth)) _ _ (λ l. tt) (λ l. ask-numbered _ _ (omega arith) _ tt)
 
 -- with one frame a move does not look below it
 below-unread : (bytes : List ℕ) (i : Index) (h : Head) (b c : Frame) (facts : ℕ) → (1 < h .depth → b ≡ c) → (w : Instruction)
@@ -264,10 +246,10 @@ module _ (bytes : List ℕ) (i : Index) (offsets program : List ℕ) (first : Po
                 (f : (v : Position) → v .facts ≡ h .facts → v .case ≡ h .case → v .depth ≡ h .depth
                 → performedAs bytes i v w asked ≡ perform bytes i offsets v w) where
               pub reached-no : (question : ℕ) → asked ≡ No question → (0 < question) × Refuses bytes program first wanted h frames question
-              unfolding over unchanged Numbered
+              unfolding over unchanged
               reached-no question k =
                   let stopped = asked-no bytes i offsets s w asked (f s refl refl refl) question k in (
-                    subst Numbered (sym stopped) (perform-numbered bytes i offsets s w),
+                    stop-number bytes i offsets s w question (sym stopped) .0,
                     more _
                         (steps-refused bytes program left _ s question _
                         (answers _ (line-refused bytes i offsets program s h reached-head w g asked f question k))),

@@ -73,10 +73,10 @@ may-stand last kind l g = by (eqb last 1) (eqb last 2) (eqb last 3) (eqb last 4)
 abbrev pub There : List ℕ → State → ℕ → ℕ → Type 0
 There bytes s kind size = recordAt bytes (s .progress .at) ≡ Record kind (s .progress .at + 4) size (s .progress .at + (4 + size))
 
--- what is to be shown of a state: of a refusal at its offset, and of the turn of each kind that may stand there, its record as long as
+-- what is to be shown of a state: of a refusal at its offset with a task's question, and of the turn of each kind that may stand there, its record as long as
 -- question 3 asks
 pub record Kinds (P : State → Type 0) (Q : Reading → Type 0) (bytes : List ℕ) (s : State) : Type 0 where
-  pub refusal : (question : ℕ) → Q (refused question (s .progress .at))
+  pub refusal : (question : ℕ) → question ≤ 9 → Q (refused question (s .progress .at))
   pub header : Follows (s .progress .last) 1 → There bytes s 1 6 → Keeps P Q (headerTurn bytes s (s .progress .at + 4) (s .progress .at + 10))
   pub action : (size : ℕ) → Follows (s .progress .last) 2 → There bytes s 2 size → size ≤ 272 → size % 32 ≡ 16
       → Keeps P Q (actionTurn bytes s (s .progress .at + 4) size (s .progress .at + (4 + size)))
@@ -124,10 +124,10 @@ module _ (P : State → Type 0) (Q : Reading → Type 0) where
 
     found-keeps : (s : State) → Kinds P Q bytes s → (f : Found) → recordAt bytes (s .progress .at) ≡ f → Keeps P Q (onRecord bytes s f)
     unfolding onRecord
-    found-keeps s k Missing e = k .refusal WHOLE
+    found-keeps s k Missing e = k .refusal WHOLE (omega arith)
     found-keeps s k (Record kind body size next) e =
-        ask-keeps P Q _ _ _ (k .refusal KIND) λ h.
-        ask-keeps P Q _ _ _ (k .refusal LENGTH) λ l.
+        ask-keeps P Q _ _ _ (k .refusal KIND (omega arith)) λ h.
+        ask-keeps P Q _ _ _ (k .refusal LENGTH (omega arith)) λ l.
         record-keeps s k kind body size next e (follows (s .progress .last) kind h) l
 
     pub turn-keeps : (s : State) → Kinds P Q bytes s → Keeps P Q (turnOf bytes s)
@@ -137,7 +137,7 @@ module _ (P : State → Type 0) (Q : Reading → Type 0) where
     pub reading-keeps : P begin → ((s : State) → P s → Kinds P Q bytes s) → Q (readTask bytes)
     unfolding readTask begin
     reading-keeps p k =
-        loop-keeps P Q (turnOf bytes) (left bytes) (refused WHOLE 0) (λ s h. turn-keeps s (k s h)) (k begin p .refusal WHOLE) begin p
+        loop-keeps P Q (turnOf bytes) (left bytes) (refused WHOLE 0) (λ s h. turn-keeps s (k s h)) (k begin p .refusal WHOLE (omega arith)) begin p
 
 -- an answer has this of its layout if it accepts; a refusal has nothing to show
 abbrev pub IfAccepted : (Layout → Type 0) → Reading → Type 0

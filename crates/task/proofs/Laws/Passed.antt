@@ -246,7 +246,7 @@ module _ (bytes : List ℕ) where
     kinds-kept : Kinds (Reached bytes) (IfAccepted (Passed bytes)) bytes s
     kinds-kept =
         record {
-          refusal = λ question. refused-vacuous (Passed bytes) question _;
+          refusal = λ question number. refused-vacuous (Passed bytes) question _;
           header = λ f r. header-kept _ _;
           action = λ size f r l m. action-kept size _ f r m;
           preset = λ f r. preset-kept _ _ f;

@@ -11,6 +11,7 @@ use mathlib.Core.Path.{_≡_, refl, sym, ap, _∙_}
 use native.Mathlib.Nat.{mod-lt, mod-add-mod, mod-eq-of-lt, mod-self, div-add-mod', mul-le-mul-right, mul-add-mod-self-right, mul-add-div-right, div-eq-of-lt}
 use native.Mathlib.Omega.{arith}
 use Rattle.records.specs.Numbers.{byteAt}
+use Rattle.records.proofs.Laws.Tests.{cond-either}
 use Rattle.task.proofs.Laws.First.{found-most, all-found, found-all}
 use Rattle.task.proofs.Laws.Verdict.{refused-accepted}
 use Rattle.task.specs.Bounds.{lineCount, programSize}
@@ -205,3 +206,20 @@ module _ (i : Index) (program : List ℕ) (procedure : Proc) (line : Line) (is :
 
   pub line-spelled : (v : Instruction) → spelled w ≡ Is v → instructionOn i program procedure line ≡ Is v
   line-spelled v k = decoded ∙ spells .1 v k
+
+-- a program's own verdict has what its refusals, from 25 on and at the offset of a line or 0, and an acceptance have
+module _ (Q : Verdict → Type 0) (i : Index) where
+  every-has : (question : ℕ) (test : ℕ → Bool) (rest : Verdict) → ((k : ℕ) → k ≤ lineCount (i .bounds) → Q (Refused question (3 * k))) → Q rest
+      → Q (everyLine i question test rest)
+  unfolding everyLine
+  every-has question test rest h r =
+      cond-either Q (ltb (firstNo test (lineCount (i .bounds))) (lineCount (i .bounds))) _ rest
+      (λ e. h _ (found-most test (lineCount (i .bounds)))) (λ e. r)
+
+  pub program-has : (presets program : List ℕ) → ((question k : ℕ) → 25 ≤ question → k ≤ lineCount (i .bounds) → Q (Refused question (3 * k))) → Q (Accepted 0)
+      → Q (programVerdict i presets program)
+  unfolding programVerdict
+  program-has presets program h a =
+      cond-either Q (eqb (length program) (programSize (i .bounds))) _ _
+      (λ e. every-has _ (lineAllowed i program) _ (λ k. h _ k (omega arith)) (every-has _ (presetHeld presets program) _ (λ k. h _ k (omega arith)) a))
+      (λ e. h _ 0 (omega arith) (omega arith))

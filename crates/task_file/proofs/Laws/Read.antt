@@ -279,7 +279,7 @@ module _ (bytes : List ℕ) where
   unfolding begin
   kinds-kept s (starts e) =
       rw e (record {
-        refusal = λ question. refused-vacuous Meant question _;
+        refusal = λ question number. refused-vacuous Meant question _;
         header = λ f r. header-kept r;
         action = λ size f r l m. absurd (omega (arith, f .high));
         preset = λ f r. absurd (omega (arith, f .high));
@@ -288,7 +288,7 @@ module _ (bytes : List ℕ) where
       })
   kinds-kept s (reads t w) =
       record {
-        refusal = λ question. refused-vacuous Meant question _;
+        refusal = λ question number. refused-vacuous Meant question _;
         header = λ f r. absurd (omega (arith, f .low, w .begun));
         action = λ size f r l m. action-kept s t w size f r l m;
         preset = λ f r. preset-kept s t w f r;

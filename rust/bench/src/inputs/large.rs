@@ -53,7 +53,7 @@ fn acting_on_all_groups(number: u32) -> Action {
         .effects((0..8).map(|group| effect(number, group)))
 }
 
-/// Changes two facts of one group, so that an action's effects never clash, if a fact of the next group has the value asked for.
+/// Changes two facts of one group, which no other effect of the action changes, if a fact of the next group has the value asked for.
 fn effect(action: u32, group: u32) -> Effect {
     let tested = fact((group + 1) % 8, (action + group) % 6);
     let asked = if (action + group).is_multiple_of(2) {

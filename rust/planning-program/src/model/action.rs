@@ -27,7 +27,7 @@ pub fn not(fact: impl Into<String>) -> Literal {
 #[derive(Clone, Debug, PartialEq, Eq)]
 pub struct Effect {
     pub(super) condition: Vec<Literal>,
-    /// A raised fact becomes true, a lowered one false.
+    /// A fact that is raised as true, one that is lowered as false.
     pub(super) change: Vec<Literal>,
 }
 
@@ -51,14 +51,15 @@ impl Effect {
         self
     }
 
-    /// Makes facts false.
+    /// Makes facts false, but for those that another effect raises that fires with this one.
     pub fn lowers(mut self, facts: impl IntoIterator<Item = impl Into<String>>) -> Effect {
         self.change.extend(facts.into_iter().map(not));
         self
     }
 }
 
-/// An action: it can be done where its precondition holds, and the effects whose conditions hold there fire together.
+/// An action: it can be done where its precondition holds, and the effects whose conditions hold there fire together. A fact is true afterwards
+/// if one of these raises it, or if it was true and none of them lowers it.
 #[derive(Clone, Debug, PartialEq, Eq)]
 pub struct Action {
     pub(super) name: String,

@@ -64,6 +64,13 @@ impl Caller {
         self.comparison.ask(Request::Step { task, program, run });
     }
 
+    /// A single step that raises a fact by one effect and lowers it by another; it has to be made.
+    pub fn meet(&mut self, task: &[u8], program: &[u8], run: Run) {
+        let outcome = self.comparison.ask(Request::Step { task, program, run });
+        assert_eq!(outcome.answer.number, 0, "a step of the run");
+        self.comparison.tally.meetings += 1;
+    }
+
     pub fn steps(&mut self, task: &[u8], program: &[u8], count: u64, run: Run) {
         self.comparison.ask(Request::Steps {
             task,

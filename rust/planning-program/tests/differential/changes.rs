@@ -26,7 +26,7 @@ fn change(random: &mut Random, task: &mut Task, program: &[u8]) {
         }
         2 => change_presets(random, task, program),
         3 => change_cases(random, task),
-        4 => make_clash(random, task),
+        4 => raise_and_lower(random, task),
         5 => change_pair(random, facts, &mut task.cases[case].goal),
         6 => change_pair(random, facts, &mut task.actions[action].precondition),
         _ => {
@@ -77,8 +77,8 @@ fn change_cases(random: &mut Random, task: &mut Task) {
     }
 }
 
-/// Gives an action two effects that raise and lower one fact; mostly both fire.
-fn make_clash(random: &mut Random, task: &mut Task) {
+/// Gives an action two effects of which one raises a fact and the other lowers it; mostly both fire.
+fn raise_and_lower(random: &mut Random, task: &mut Task) {
     let facts = task.bounds.all_facts();
     let fact = 1 << random.below(task.bounds.facts.into());
     let action = random.below(task.actions.len());

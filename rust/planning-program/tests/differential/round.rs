@@ -29,6 +29,7 @@ pub fn round(caller: &mut Caller) {
         ask_damaged_program(caller, &sample);
         ask_damaged_plan(caller, &sample, &plan);
         ask_steps(caller, &sample, &sample.file, &sample.program);
+        ask_meeting(caller, &sample);
         for _ in 0..2 {
             ask_late_case(caller, &sample);
         }
@@ -96,6 +97,15 @@ fn ask_steps(caller: &mut Caller, sample: &Sample, task: &[u8], program: &[u8]) 
     caller.step(task, program, run);
     let run = position(&mut caller.random, &sample.task, &sample.run);
     ask_steps_from(caller, sample, task, program, run);
+}
+
+/// A single step of the run that raises a fact by one effect and lowers it by another, if there is one.
+fn ask_meeting(caller: &mut Caller, sample: &Sample) {
+    let meetings = sample.meetings();
+    if !meetings.is_empty() {
+        let run = caller.random.pick(&meetings);
+        caller.meet(&sample.file, &sample.program, run);
+    }
 }
 
 /// A position of the run or another, one in four of them not possible.

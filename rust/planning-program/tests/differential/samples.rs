@@ -21,6 +21,19 @@ pub struct Sample {
     pub draft: (Vec<u8>, Vec<u8>),
 }
 
+impl Sample {
+    /// The positions of the run from which a step raises a fact by one effect and lowers it by another.
+    pub fn meetings(&self) -> Vec<Run> {
+        let actions = &self.task.actions;
+        let meets = |position: &&Run| {
+            let action = next_action(&self.task, &self.program, position);
+            action.is_some_and(|action| actions[action].raises_what_it_lowers(position.facts))
+        };
+        let (_, before_the_last) = self.run.split_last().expect("the start");
+        before_the_last.iter().filter(meets).copied().collect()
+    }
+}
+
 pub fn sample(random: &mut Random) -> Sample {
     let mut task = tasks::task(random);
     let program = programs::program(random, &mut task);
@@ -35,7 +48,7 @@ pub fn full_size(random: &mut Random) -> Sample {
 
 fn fitted(random: &mut Random, mut task: Task, mut program: Vec<u8>) -> Sample {
     let draft = (task.file(), program.clone());
-    let run = end_cases(random, &mut task, &mut program);
+    let run = end_cases(random, &task, &mut program);
     set_goals(random, &mut task, &run);
     set_preconditions(random, &mut task, &program, &run);
     set_bounds(random, &mut task, &run);
@@ -50,7 +63,7 @@ fn fitted(random: &mut Random, mut task: Task, mut program: Vec<u8>) -> Sample {
 }
 
 /// Repairs the program until it ends its cases; gives up after many repairs.
-fn end_cases(random: &mut Random, task: &mut Task, program: &mut [u8]) -> Vec<Run> {
+fn end_cases(random: &mut Random, task: &Task, program: &mut [u8]) -> Vec<Run> {
     let mut repairs = 0;
     loop {
         let (positions, number) = run(task, program);
@@ -63,14 +76,12 @@ fn end_cases(random: &mut Random, task: &mut Task, program: &mut [u8]) -> Vec<Ru
     }
 }
 
-/// Takes away what stopped the run at this position: a clash by its effects, anything else by another instruction.
-fn repair(random: &mut Random, task: &mut Task, program: &mut [u8], number: u32, stuck: &Run) {
+/// Takes away what stopped the run at this position, by another instruction.
+fn repair(random: &mut Random, task: &Task, program: &mut [u8], number: u32, stuck: &Run) {
     const TO_LINE_1: Instruction = [2, 1, 0];
     let [procedure, line] = top(stuck);
-    let [_, action, _] = task.bounds.instruction(program, procedure, line);
     let first = task.bounds.instruction(program, procedure, 0);
     let (line, instruction) = match number {
-        20 => return task.actions[usize::from(action)].effects.truncate(1),
         28 => (line, allowed(random, task, line)),
         _ if line > 0 => (line, END),
         _ if first == TO_LINE_1 => (1, END),
@@ -95,10 +106,9 @@ fn set_goals(random: &mut Random, task: &mut Task, run: &[Run]) {
 fn set_preconditions(random: &mut Random, task: &mut Task, program: &[u8], run: &[Run]) {
     let facts = task.bounds.all_facts();
     let mut held = vec![None; task.actions.len()];
-    for position in run.iter().filter(|position| position.depth > 0) {
-        let [procedure, line] = top(position);
-        if let [1, action, _] = task.bounds.instruction(program, procedure, line) {
-            let held = &mut held[usize::from(action)];
+    for position in run {
+        if let Some(action) = next_action(task, program, position) {
+            let held = &mut held[action];
             let Pair(yes, no) = held.unwrap_or(Pair(facts, facts));
             *held = Some(Pair(yes & position.facts, no & !position.facts));
         }
@@ -108,6 +118,18 @@ fn set_preconditions(random: &mut Random, task: &mut Task, program: &[u8], run: 
             Some(Pair(yes, no)) => random.pair(yes, no),
             None => random.any_pair(facts),
         };
+    }
+}
+
+/// The action that the next step does, if it does one.
+fn next_action(task: &Task, program: &[u8], position: &Run) -> Option<usize> {
+    if position.depth == 0 {
+        return None;
+    }
+    let [procedure, line] = top(position);
+    match task.bounds.instruction(program, procedure, line) {
+        [1, action, _] => Some(action.into()),
+        _ => None,
     }
 }
 

@@ -9,9 +9,9 @@ use super::request::{Outcome, KINDS};
 /// The numbers of the questions are below this one.
 const NUMBERS: usize = 35;
 
-/// Every number that the library's entries can answer; 30 is the program's alone.
+/// Every number that the library's entries can answer: 20 never says no, and 30 is the program's alone.
 fn numbers() -> impl Iterator<Item = usize> {
-    (0..NUMBERS).filter(|&number| number != 30)
+    (0..NUMBERS).filter(|number| ![20, 30].contains(number))
 }
 
 /// The questions of a task.
@@ -20,7 +20,7 @@ const OF_TASKS: [usize; 9] = [1, 2, 3, 4, 5, 6, 7, 8, 9];
 /// The questions of a single step and of a number of steps that are asked once, behind those of the task.
 const ASKED_ONCE: [usize; 4] = [25, 26, 27, 31];
 /// Those that are asked before each step.
-const ASKED_EACH_STEP: [usize; 6] = [14, 28, 19, 20, 21, 22];
+const ASKED_EACH_STEP: [usize; 5] = [14, 28, 19, 21, 22];
 /// Those of a late case behind those of the task, but 6 for its own sets.
 const OF_LATE_CASES: [usize; 4] = [31, 32, 33, 34];
 
@@ -35,6 +35,8 @@ pub struct Tally {
     new_sets: usize,
     /// How often the steps of a run led to the same position with a case added.
     pub reached: usize,
+    /// How often a single step raised a fact by one effect and lowered it by another.
+    pub meetings: usize,
 }
 
 impl Tally {
@@ -43,10 +45,13 @@ impl Tally {
         moved: [0; NUMBERS],
         new_sets: 0,
         reached: 0,
+        meetings: 0,
     };
 
+    /// Counts what the library answered. That must never be 20, for any kind of request, whatever the reference says.
     pub fn count(&mut self, kind: usize, outcome: &Outcome) {
         let Answer { number, value } = outcome.answer;
+        assert_ne!(number, 20, "question 20 never says no");
         let index = number as usize;
         self.counts[kind][index] += 1;
         self.moved[index] += usize::from(outcome.made > Some(0));
@@ -91,6 +96,11 @@ impl Tally {
         assert_each("some steps", &self.moved, &ASKED_EACH_STEP, refusals);
     }
 
+    /// Fails unless raising and lowering met so often.
+    pub fn assert_least_meetings(&self, meetings: usize) {
+        assert!(self.meetings >= meetings, "{} meetings", self.meetings);
+    }
+
     /// Fails unless each question of a task came up so often for a late case, each of its own so often, 6 for its sets among them, and as often
     /// as these a position was reached again.
     pub fn assert_least_of_late_cases(&self, of_tasks: usize, of_its_own: usize) {
@@ -120,7 +130,8 @@ impl Display for Tally {
         let totals = self.counts.map(|counts| counts.iter().sum());
         row(f, "all", totals, [self.moved.iter().sum(), self.total()])?;
         writeln!(f, "6 for the sets of a late case: {}", self.new_sets)?;
-        writeln!(f, "positions reached with a late case: {}", self.reached)
+        writeln!(f, "positions reached with a late case: {}", self.reached)?;
+        writeln!(f, "steps that raise what they lower: {}", self.meetings)
     }
 }
 

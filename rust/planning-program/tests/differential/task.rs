@@ -125,7 +125,26 @@ impl Task {
     }
 }
 
+impl Pair {
+    fn holds_in(self, facts: u64) -> bool {
+        let Pair(yes, no) = self;
+        facts & yes == yes && facts & no == 0
+    }
+}
+
 impl Action {
+    /// Whether one effect raises what another lowers, of those that fire where these facts are true.
+    pub fn raises_what_it_lowers(&self, facts: u64) -> bool {
+        let (mut raised, mut lowered) = (0, 0);
+        for Effect { condition, change } in &self.effects {
+            if condition.holds_in(facts) {
+                raised |= change.0;
+                lowered |= change.1;
+            }
+        }
+        raised & lowered != 0
+    }
+
     pub fn body(&self) -> Vec<u8> {
         let Pair(yes, no) = self.precondition;
         let mut body = sets(&[yes, no]);

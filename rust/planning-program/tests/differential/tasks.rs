@@ -51,17 +51,11 @@ fn filled(
     }
 }
 
-/// Mostly an action that cannot clash, because no effect lowers what another may raise.
+/// An action with so many effects, of which any may raise what another lowers.
 fn action(random: &mut Random, facts: u64, effects: u8) -> Action {
-    let may_clash = random.one_in(6);
-    let side = random.number();
     let effect = |_| Effect {
         condition: random.any_pair(facts),
-        change: if may_clash {
-            random.any_pair(facts)
-        } else {
-            random.pair(facts & side, facts & !side)
-        },
+        change: random.any_pair(facts),
     };
     Action {
         precondition: Pair::default(),

@@ -1,4 +1,4 @@
-//! The requests of vectors/level-03.txt and their agreed answers; vectors/README.md says how they are written.
+//! The requests of vectors/level-04.txt and their agreed answers; vectors/README.md says how they are written.
 
 pub mod words;
 
@@ -18,18 +18,18 @@ pub struct Vector {
 /// The kinds of request, and how many the file has of each.
 pub const COUNTS: [(&str, usize); 8] = [
     ("task", 22),
-    ("check", 51),
-    ("write", 41),
-    ("step", 42),
-    ("steps", 42),
-    ("pairs", 46),
+    ("check", 152),
+    ("write", 123),
+    ("step", 123),
+    ("steps", 123),
+    ("pairs", 43),
     ("late", 93),
-    ("print", 52),
+    ("print", 50),
 ];
 
 /// All requests of the file.
 pub fn all() -> Vec<Vector> {
-    let text = include_str!("../../../../vectors/level-03.txt");
+    let text = include_str!("../../../../vectors/level-04.txt");
     let lines: Vec<&str> = text.lines().collect();
     let vector = |(k, pair): (usize, &[&'static str])| {
         let line = 2 * k + 1;

@@ -4,6 +4,7 @@ mod double_click;
 mod four_corners;
 mod grid;
 mod grid_navigation;
+mod moving_up;
 mod preset_procedures;
 mod tree_traversal;
 
@@ -21,6 +22,7 @@ pub struct Sample {
 pub fn all() -> Result<Vec<Sample>, Mistake> {
     Ok(vec![
         double_click::sample()?,
+        moving_up::sample()?,
         grid_navigation::sample()?,
         four_corners::sample()?,
         tree_traversal::sample()?,
