@@ -2,8 +2,8 @@
 -- Jonsson. A plan for it writes a planning program and runs it on every case. Its states say which instruction each line holds, which case is
 -- active, which facts are true and where the run is. For each instruction that is allowed on a line there are two actions: one writes it on the
 -- line, which must be empty, and runs it; the other runs it again where it stands. All of it is said by rules, one for each way that an action
--- can go. As docs/FORMATS.md rules and the papers do not, a fact that effects both raise and lower is true, where the papers take it that effects never
--- name a fact both ways; the last case's goal is asked at its end, nothing applies after the finish, lines may be preset, any procedure may be called, and
+-- can go. As docs/FORMATS.md rules and the papers do not, a fact that effects which fire both raise and lower is true (the papers' sets of literals never
+-- have a fact both ways), the last case's goal is asked at its end, nothing applies after the finish, lines may be preset, any procedure may be called, and
 -- a goto may name its own line.
 -- `bytes` are the task's, `t` their layout.
 use Prim.Native.Nat.{ℕ, _+_, _<_}

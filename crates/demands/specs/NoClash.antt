@@ -4,10 +4,12 @@ use Prim.Native.Nat.{ℕ, _<_}
 use mathlib.Core.Path.{_≡_}
 use mathlib.Core.Bool.{not, _&&_, _||_}
 use mathlib.Core.List.{List}
+use Rattle.task.specs.Program.{programVerdict}
 use Rattle.task.specs.Reading.{readTask}
 use Rattle.task.specs.Verdict.{numberOf}
 use Rattle.task.specs.declared.index.Case.{Case}
 use Rattle.task.specs.declared.index.Effect.{Effect}
+use Rattle.task.specs.declared.index.Index.{Index}
 use Rattle.task.specs.declared.verdict.Verdict.{Verdict}
 use Rattle.step.specs.Effects.{fired, someHas, changesOf, changed}
 use Rattle.step.specs.Facts.{has}
@@ -27,14 +29,16 @@ RaisedBeatsLowered =
     ≡ (someHas (λ e. e .raised) (fired state effects) f || (has state f && not (someHas (λ e. e .lowered) (fired state effects) f)))
 
 -- a verdict whose number is not 20
-abbrev pub NotClash : Verdict → Type 0
-NotClash v = numberOf v ≡ CLASH → ⊥
+abbrev pub Not20 : Verdict → Type 0
+Not20 v = numberOf v ≡ CLASH → ⊥
 
--- every entry, for any bytes as task, and as buffer of a late case; any plan, program, buffer, number of steps, run and case
+-- every verdict, for any bytes as task, and as buffer of a late case; any plan, program, buffer, number of steps, run and case. The program `check_plan`
+-- prints the checker's number, or 30
 pub record NoClash (bytes : List ℕ) : Type 0 where
-  pub task : NotClash (readTask bytes .verdict)
-  pub checker : (plan buffer : List ℕ) → NotClash (check bytes plan buffer .verdict)
-  pub writer : (program buffer : List ℕ) → NotClash (write bytes program buffer .verdict)
-  pub single-step : (program : List ℕ) (run : Position) → NotClash (singleStep bytes program run .verdict)
-  pub many-steps : (program : List ℕ) (count : ℕ) (run : Position) → NotClash (manySteps bytes program count run .answer .verdict)
-  pub late-case : (given : ℕ) (c : Case) (run : Position) → NotClash (addVerdict bytes given c run)
+  pub task : Not20 (readTask bytes .verdict)
+  pub program : (i : Index) (presets program : List ℕ) → Not20 (programVerdict i presets program)
+  pub checker : (plan buffer : List ℕ) → Not20 (check bytes plan buffer .verdict)
+  pub writer : (program buffer : List ℕ) → Not20 (write bytes program buffer .verdict)
+  pub single-step : (program : List ℕ) (run : Position) → Not20 (singleStep bytes program run .verdict)
+  pub many-steps : (program : List ℕ) (count : ℕ) (run : Position) → Not20 (manySteps bytes program count run .answer .verdict)
+  pub late-case : (given : ℕ) (c : Case) (run : Position) → Not20 (addVerdict bytes given c run)

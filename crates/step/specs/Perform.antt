@@ -50,7 +50,7 @@ end bytes i s =
     (ask (holds (s .facts) (caseAt bytes (i .first) (s .case) .goal)) GOAL (go (counted (afterCase bytes i s))))
 
 module _ (bytes : List ℕ) (i : Index) (offsets : List ℕ) where
-  -- an instruction: questions 19, 21 and 22, and 28 of an empty one
+  -- an instruction: questions 19 to 22, of which 20 is never asked, and 28 of an empty one
   unfoldable pub perform : Position → Instruction → Turn Position ℕ
   perform s Empty = stop EMPTY
   perform s (Act action) = act bytes (getD offsets action 0) s

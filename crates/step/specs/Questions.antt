@@ -1,4 +1,4 @@
--- The questions that a run asks, by their numbers.
+-- The questions that a run asks, by their numbers; 20 has its name still, and nothing asks it.
 use Prim.Native.Nat.{ℕ}
 
 -- whether the number of steps made is still below S
@@ -9,7 +9,7 @@ STEPS = 14
 abbrev pub PRECONDITION : ℕ
 PRECONDITION = 19
 
--- whether no fact gets both raised and lowered: the number stays, and is never answered, as such a fact is true
+-- never answered: a fact that is both raised and lowered is true
 abbrev pub CLASH : ℕ
 CLASH = 20
 

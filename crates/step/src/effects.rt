@@ -23,9 +23,12 @@ pub(crate) fn changes_of(task: &[u8], at: usize, effects: u16, state: u64) -> Ch
     let mut lowered = 0;
     let mut e = 0;
     while e < effects {
-        let effect = effect_at(task, at, e);
+        let number = e;
         e += 1;
-        if holds(state, effect.condition.positive, effect.condition.negative) {
+        let condition = effect_at(task, at, number).condition;
+        if holds(state, condition.positive, condition.negative) {
+            // Read here, so that of an effect that does not fire the condition alone is loaded.
+            let effect = effect_at(task, at, number);
             raised = raised | effect.raised;
             lowered = lowered | effect.lowered;
         }

@@ -1,10 +1,10 @@
-// The questions that a run asks, by their numbers.
+// The questions that a run asks, by their numbers; 20 has its name still, and nothing asks it.
 
 // Is the number of steps made still below S?
 pub const STEPS: u8 = 14;
 // Act: is its precondition met?
 pub const PRECONDITION: u8 = 19;
-// Does no fact get both raised and lowered? The number stays, and is never answered, as such a fact is true.
+// Never answered: a fact that is both raised and lowered is true.
 pub const CLASH: u8 = 20;
 // Call: has the stack room below m frames?
 pub const STACK: u8 = 21;

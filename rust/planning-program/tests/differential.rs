@@ -5,8 +5,8 @@
 //! record, after refusals and beyond what is filled too. A call for a number of steps must give what as many single steps of the library
 //! give. The pairs of an action before the first that fails are counted by the reference, and by the library's verdicts on tasks. A task that
 //! a late case was added to must pass; and where that was done under a position of a real run, the same steps must lead there in the longer
-//! task. A difference is shown with the seed, the request as a line of vectors/README.md, and both outcomes. The test fails unless every
-//! number comes up but 20, which never may, and unless enough steps raise a fact by one effect and lower it by another.
+//! task. A difference is shown with the seed, the request as a line of vectors/README.md, and both outcomes. Every number but
+//! 20 has to come up, and 20 never; and so do steps that raise a fact by one effect and lower it by another, and leave it true.
 //!
 //! With another seed or more requests, and with the table of answers:
 //!

@@ -40,7 +40,7 @@ impl<'a> Action<'a> {
     }
 
     /// The facts after the action. Every condition is judged in the facts before it, and a fact
-    /// that is both raised and lowered becomes true.
+    /// that is both raised and lowered is true.
     pub fn apply(&self, facts: Facts) -> Result<Facts, Question> {
         ask(19, self.precondition.hold_in(facts))?;
         let mut raised = 0;

@@ -32,7 +32,7 @@ use Rattle.step.specs.Possible.{possible}
 use Rattle.step.specs.declared.position.Frame.{Frame}
 use Rattle.step.specs.declared.position.Position.{Position}
 use Rattle.step.proofs.Laws.Kept.{step-possible}
-use Rattle.step.proofs.Laws.Perform.{Number, steps-grow, stop-number}
+use Rattle.step.proofs.Laws.Perform.{RefusalNumber, steps-grow, stop-number}
 use Rattle.step.proofs.Laws.Possible.{parts, case-open}
 use Rattle.checker.specs.Answer.{Result, refused, accepted}
 use Rattle.checker.specs.Check.{State, lineFits, written, onMove, onStep, onDecoded, stepTurn, closeTurn, onRecord, turnOf, left, begin, follow}
@@ -94,16 +94,15 @@ module _ (bytes : List ℕ) (i : Index) (offsets plan : List ℕ) (s : State) wh
     pub count : steps ≡ s .position .steps
     pub same : program ≡ s .program
 
-  -- what an answer says: a refusal has the number of a question that is asked, and the record's offset as its place, or for 24 the offset behind the
-  -- closing record
+  -- what an answer says: a refusal has such a number, and the record's offset as its place, or for 24 the offset behind the closing record
   abbrev Ended : Result → Type 0
-  Ended (refused question place) = Number question × (place ≤ s .at + 4)
+  Ended (refused question place) = RefusalNumber question × (place ≤ s .at + 4)
   Ended (accepted steps program) = Ends steps program
 
   abbrev Says : Turn State Result → Type 0
   Says = Keeps Went Ended
 
-  ask-says : (answer : Bool) (question : ℕ) (rest : Turn State Result) → Number question → (answer ≡ true → Says rest)
+  ask-says : (answer : Bool) (question : ℕ) (rest : Turn State Result) → RefusalNumber question → (answer ≡ true → Says rest)
       → Says (ask answer (refused question (s .at)) rest)
   ask-says answer question rest n k = ask-keeps Went Ended answer _ rest (n, omega arith) k
 
@@ -213,8 +212,8 @@ module _ (bytes : List ℕ) (i : Index) (offsets plan : List ℕ) (s : State) wh
   ends-accepts steps program e =
       rw (e .found) (simp (e .known, e .fits, e .closing, eq-eqb _ _ (e .case), eq-eqb _ _ (e .end), e .count, e .same))
 
-  -- a turn that refuses does so at its record, or right behind a closing one
-  refuses-near : (question place : ℕ) → turnOf bytes i offsets plan s ≡ stop (refused question place) → Number question × (place ≤ s .at + 4)
+  -- a turn that refuses has a number that a refusal can have, at its record or right behind a closing one
+  refuses-near : (question place : ℕ) → turnOf bytes i offsets plan s ≡ stop (refused question place) → RefusalNumber question × (place ≤ s .at + 4)
   refuses-near question place e = rw e at turn-says
 
   -- the next record is behind this one
@@ -271,10 +270,10 @@ module _ (bytes : List ℕ) (i : Index) (offsets plan : List ℕ) where
     unfolding after
     from-stops x e = rest (stop x) e
 
--- a result within the step bound: no more steps than that; a refusal has the number of a question that is asked, and a place that the records of so
--- many steps and the closing one reach
+-- a result within the step bound: no more steps than that; a refusal has a number that one can have, and a place that the records of so many steps and
+-- the closing one reach
 abbrev pub Within : Index → Result → Type 0
-Within i (refused question place) = Number question × (place ≤ 9 * i .bounds .steps + 4)
+Within i (refused question place) = RefusalNumber question × (place ≤ 9 * i .bounds .steps + 4)
 Within i (accepted steps bytes) = steps ≤ i .bounds .steps
 
 module _ (bytes : List ℕ) (t : Layout) (plan : List ℕ) where

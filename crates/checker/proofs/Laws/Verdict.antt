@@ -16,7 +16,7 @@ use Rattle.task.specs.declared.index.Layout.{Layout}
 use Rattle.task.specs.declared.verdict.Verdict.{Verdict}
 use Rattle.task.specs.declared.verdict.Verdict.the-variants.{Accepted, Refused}
 use Rattle.task.proofs.Laws.Passed.{Passed, passed}
-use Rattle.step.proofs.Laws.Perform.{Number}
+use Rattle.step.proofs.Laws.Perform.{RefusalNumber}
 use Rattle.checker.specs.Answer.{Result, refused, accepted, passing, answer}
 use Rattle.checker.specs.Check.{follow, check}
 use Rattle.checker.specs.Plan.{planSize}
@@ -26,9 +26,9 @@ use Rattle.checker.proofs.Laws.Turns.{Within, follow-within}
 use Rattle.checker.proofs.Laws.Write.{run-within}
 
 module _ (Q : Verdict → Type 0) where
-  -- a result within the bound has the property, as the verdict that it gives
+  -- a property of every verdict within a step bound
   pub record Covers (steps : ℕ) : Type 0 where
-    pub refusal : (question place : ℕ) → Number question → place ≤ 9 * steps + 4 → Q (Refused question place)
+    pub refusal : (question place : ℕ) → RefusalNumber question → place ≤ 9 * steps + 4 → Q (Refused question place)
     pub acceptance : (value : ℕ) → value ≤ steps → Q (Accepted value)
 
   module _ (bytes buffer : List ℕ) where
@@ -51,17 +51,20 @@ module _ (Q : Verdict → Type 0) where
         (cond-either (Within (t .index)) (leb (planSize steps) (length buffer)) (accepted steps plan) (refused PLAN-BUFFER (planSize steps)) (λ e. h)
         (λ e. omega (arith, h)))
 
+    -- what follows the task's verdict: question 10, and the plan
+    abbrev onPlan : List ℕ → Result
+    onPlan plan = cond (leb (programSize (t .index .bounds)) (length buffer)) (follow bytes t plan) (refused BUFFER 0)
+
+    -- a property of the task's verdict, of the program's and of every one within the bound is one of the verdict
     module _ (task : Q (readTask bytes .verdict)) (covers : Passed bytes (readTask bytes .layout) → Covers most) where
       pub check-has : (plan : List ℕ) → Q (check bytes plan buffer .verdict)
       unfolding check passing answer
       check-has plan = by (readTask bytes .verdict) refl task
         where
-          by : (v : Verdict) → readTask bytes .verdict ≡ v → Q v
-              → Q (answer (programSize (t .index .bounds)) buffer
-              (passing v (cond (leb (programSize (t .index .bounds)) (length buffer)) (follow bytes t plan) (refused BUFFER 0))) .verdict)
+          by : (v : Verdict) → readTask bytes .verdict ≡ v → Q v → Q (answer (programSize (t .index .bounds)) buffer (passing v (onPlan plan)) .verdict)
           by (Refused question place) e h = h
           by (Accepted value) e h =
-              answer-has (programSize (t .index .bounds)) (cond (leb (programSize (t .index .bounds)) (length buffer)) (follow bytes t plan) (refused BUFFER 0)) (covers (passed bytes value e))
+              answer-has (programSize (t .index .bounds)) (onPlan plan) (covers (passed bytes value e))
               (cond-either (Within (t .index)) (leb (programSize (t .index .bounds)) (length buffer)) (follow bytes t plan) (refused BUFFER 0)
               (λ f. follow-within bytes t plan) (λ f. omega arith))
 

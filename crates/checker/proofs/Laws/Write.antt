@@ -178,7 +178,7 @@ module _ (bytes : List ℕ) (i : Index) (offsets program : List ℕ) where
       unroll (writeTurn bytes i offsets program) (stepsLeft i) (refused STEPS 0)
       (λ u v. written-falls bytes i offsets u program v) s
 
-  -- a run has at most S steps: those that it is accepted with, and those after which it stops
+  -- a run is within the step bound, as a plan is: so are the steps that it is accepted with, and those after which it stops
   abbrev Few : Writing → Type 0
   Few s = s .position .steps ≤ i .bounds .steps
 

@@ -1,4 +1,5 @@
 -- The call's answer, question by question; and the buffer: what is put before the closing record makes the file of the same task with the case added last.
+-- And what the verdict can be.
 -- Assumes nothing.
 use Prim.Native.Nat.{ℕ, zero, suc, _+_, _-_, _≤_, _<_}
 use mathlib.Core.Path.{_≡_, refl, sym, ap, _∙_}
@@ -249,7 +250,7 @@ module _ (buffer : List ℕ) (given : ℕ) (new : Case) (run : Position) where
       by (Accepted value) h f = record { value = value; passes = h; yes = late-yes i run _ new _ n (sym f); after = rw e refl }
       by (Refused question place) h f = absurd (refused-accepted f)
 
--- the verdict has what the task's has, its own refusals, and an acceptance with the longer file's length
+-- a property of the task's verdict, of the call's own refusals and of an acceptance with the longer file's length is one of the verdict
 module _ (Q : Verdict → Type 0) (buffer : List ℕ) (given : ℕ) (new : Case) (run : Position)
     (refuses : (question : ℕ) → (question ≡ SETS) ⊎ (POSSIBLE ≤ question) → Q (Refused question 0)) where
   asked-has : (answer : Bool) (question : ℕ) (rest : Verdict) → (question ≡ SETS) ⊎ (POSSIBLE ≤ question) → Q rest → Q (asked answer question rest)

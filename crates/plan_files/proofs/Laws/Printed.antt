@@ -12,17 +12,16 @@ use borrow.Author.Tests.{leb-true}
 use Rattle.records.proofs.Laws.Tests.{both-true, cond-either}
 use Rattle.task.proofs.Laws.Bounds.{ranges}
 use Rattle.task.proofs.Laws.Numbers.{task-said}
-use Rattle.task.proofs.Laws.Passed.{passed}
-use Rattle.task.specs.Bounds.{inRange, programSize}
+use Rattle.task.proofs.Laws.Passed.{Passed, passed}
+use Rattle.task.specs.Bounds.{inRange}
 use Rattle.task.specs.Reading.{readTask}
 use Rattle.task.specs.Verdict.{numberOf, valueOf}
 use Rattle.task.specs.declared.index.Index.{Index}
 use Rattle.task.specs.declared.verdict.Verdict.{Verdict}
 use Rattle.task.specs.declared.verdict.Verdict.the-variants.{Accepted, Refused}
-use Rattle.checker.specs.Answer.{Answer, Result, refused, accepted, passing, answer}
-use Rattle.checker.specs.Check.{follow, check}
-use Rattle.checker.specs.Questions.{BUFFER}
-use Rattle.checker.proofs.Laws.Turns.{Within, follow-within}
+use Rattle.checker.specs.Answer.{Answer}
+use Rattle.checker.specs.Check.{check}
+use Rattle.checker.proofs.Laws.Verdict.{Covers, check-has}
 use Rattle.listing.proofs.Laws.Length.{report-most}
 use Rattle.listing.specs.Listing.{reportText}
 use Rattle.plan_files.specs.Files.{LONGEST, checkFiles, printed, PrintedFits}
@@ -38,27 +37,27 @@ refused-fine i question place q p =
     record { number = q; value = omega arith; sound = λ steps e. let z : _≡_ {A = ℕ} 0 1 = cc in absurd (omega arith) }
 
 module _ (task plan : List ℕ) (t : length task ≤ LONGEST) (buffer : List ℕ) where
-  most : (value : ℕ) → readTask task .verdict ≡ Accepted value → readTask task .layout .index .bounds .steps ≤ 4096
-  most value e = ranges _ (passed task value e .bounded) .steps .1
+  abbrev i : Index
+  i = readTask task .layout .index
 
-  -- what follows the task's verdict
-  passing-fine : (size : ℕ) (v : Verdict) → readTask task .verdict ≡ v → (numberOf v ≤ 9) × (valueOf v ≤ length task) → (rest : Result)
-      → Within (readTask task .layout .index) rest → Fine (readTask task .layout .index) (answer size buffer (passing v rest) .verdict)
-  unfolding passing answer
-  passing-fine size (Refused question place) e h rest c = refused-fine _ question place (omega (arith, h .0)) (omega (arith, h .1, t))
-  passing-fine size (Accepted value) e h (refused question place) c =
-      refused-fine _ question place (c .0 .1) (omega (arith, c .1, most value e))
-  passing-fine size (Accepted value) e h (accepted steps program) c =
-      let r = passed task value e in
-      record { number = omega arith; value = omega (arith, c, most value e); sound = λ _ _. (r .bounded, r .actions) }
+  task-fine : Fine i (readTask task .verdict)
+  task-fine =
+      record {
+        number = omega (arith, task-said task .0);
+        value = omega (arith, task-said task .1, t);
+        sound = λ value e. let r = passed task value e in (r .bounded, r .actions);
+      }
 
-  check-fine : Fine (readTask task .layout .index) (check task plan buffer .verdict)
-  unfolding check
-  check-fine =
-      let read = readTask task .layout in
-      passing-fine _ _ refl (task-said task) _
-      (cond-either (Within (read .index)) (leb (programSize (read .index .bounds)) (length buffer)) (follow task read plan) (refused BUFFER 0)
-      (λ e. follow-within task read plan) (λ e. omega arith))
+  covers : Passed task (readTask task .layout) → Covers (Fine i) (i .bounds .steps)
+  covers r =
+      let most = ranges (i .bounds) (r .bounded) .steps .1 in
+      record {
+        refusal = λ question place n l. refused-fine i question place (n .1) (omega (arith, l, most));
+        acceptance = λ steps l. record { number = omega arith; value = omega (arith, l, most); sound = λ _ _. (r .bounded, r .actions) };
+      }
+
+  check-fine : Fine i (check task plan buffer .verdict)
+  check-fine = check-has (Fine i) task buffer task-fine covers plan
 
 printed-most : (task plan : List ℕ) → length (printed task plan) ≤ 3695
 unfolding printed checkFiles

@@ -38,7 +38,7 @@ module _ (op : ℕ → ℕ → ℕ) (on : Bool → Bool → Bool)
       (digit (λ (y : ℕ). eqb (op 0 y) 1 ≡ on false (eqb y 1)) e₁ e₂ (b / 2 ^ f))
       (digit (λ (y : ℕ). eqb (op 1 y) 1 ≡ on true (eqb y 1)) e₃ e₄ (b / 2 ^ f)) (a / 2 ^ f)
 
-pub has-and : (a b f : ℕ) → has (bitAnd a b) f ≡ (has a f && has b f)
+has-and : (a b f : ℕ) → has (bitAnd a b) f ≡ (has a f && has b f)
 has-and = has-op bitAnd _&&_ and-shr and-mod refl refl refl refl
 
 pub has-or : (a b f : ℕ) → has (bitOr a b) f ≡ (has a f || has b f)
@@ -158,7 +158,7 @@ every-none (suc n) test = ap (λ (b : Bool). b && not (test n)) (every-none n te
     more false = and-true (eqb (setOf n test) 0) ∙ ap (λ (x : ℕ). eqb x 0) (sym (add-zero (setOf n test)))
 
 -- a test that says no at exactly the bits of a word says yes at every fact exactly when the word is 0
-pub word-none : (w : ℕ) (test : ℕ → Bool) → w < 2 ^ 64 → ((f : ℕ) → test f ≡ not (has w f)) → every 64 test ≡ eqb w 0
+word-none : (w : ℕ) (test : ℕ → Bool) → w < 2 ^ 64 → ((f : ℕ) → test f ≡ not (has w f)) → every 64 test ≡ eqb w 0
 word-none w test h k = (λ i. every 64 (λ f. k f i)) ∙ every-none 64 (has w) ∙ ap (λ (x : ℕ). eqb x 0) (set-bits w 64 ∙ mod-eq-of-lt h)
 
 -- a condition holds when no fact that must be true is missing and none that must be false is there

@@ -1,6 +1,6 @@
 -- What an instruction that does not stop has done: one of seven moves, whose questions said yes, and one step more is counted. So each law of
 -- a step looks at the seven moves alone: every step counts one, the case grows only at an end with one frame, and there it does; and a move
--- whose questions say yes is made, so a step is determined by them. One that stops has the number of a question that is asked, and 20 is none.
+-- whose questions say yes is made, so a step is determined by them. One that stops has a number that is not 20.
 -- Assumes nothing.
 use Prim.Native.Nat.{ℕ, _+_, _≤_, _<_}
 use mathlib.Core.Path.{_≡_, refl, ap, _∙_}
@@ -47,9 +47,9 @@ pub data Move (bytes : List ℕ) (i : Index) (offsets : List ℕ) (s : Position)
   finishes : s .depth ≤ 1 → holds (s .facts) (caseAt bytes (i .first) (s .case) .goal) ≡ true → i .cases ≤ s .case + 1
       → Move bytes i offsets s End (finished s)
 
--- the number of a question that is asked: it is not 0, has two digits at most, and is not 20
-abbrev pub Number : ℕ → Type 0
-Number question = (0 < question) × (question < 100) × (question ≡ CLASH → ⊥)
+-- what is known of the number of a refusal: it is not 0, has two digits at most, and is not 20
+abbrev pub RefusalNumber : ℕ → Type 0
+RefusalNumber question = (0 < question) × (question < 100) × (question ≡ CLASH → ⊥)
 
 module _ (bytes : List ℕ) (i : Index) (offsets : List ℕ) (s : Position) where
   -- a position that an instruction goes to: it made a move, and the step is counted
@@ -59,14 +59,14 @@ module _ (bytes : List ℕ) (i : Index) (offsets : List ℕ) (s : Position) wher
     pub after : t ≡ counted to
 
   abbrev Goes : Instruction → Turn Position ℕ → Type 0
-  Goes w = Keeps (Moved w) Number
+  Goes w = Keeps (Moved w) RefusalNumber
 
   one : {w : Instruction} {u : Position} → Move bytes i offsets s w u → Moved w (counted u)
   one m = record { to = _; move = m; after = refl }
 
-  ask-goes : (w : Instruction) (answer : Bool) (question : ℕ) (rest : Turn Position ℕ) → Number question → (answer ≡ true → Goes w rest)
+  ask-goes : (w : Instruction) (answer : Bool) (question : ℕ) (rest : Turn Position ℕ) → RefusalNumber question → (answer ≡ true → Goes w rest)
       → Goes w (ask answer question rest)
-  ask-goes w answer question rest n k = ask-keeps (Moved w) Number answer question rest n k
+  ask-goes w answer question rest n k = ask-keeps (Moved w) RefusalNumber answer question rest n k
 
   goes : (w : Instruction) → Goes w (perform bytes i offsets s w)
   unfolding perform act goto call end afterCase
@@ -130,14 +130,14 @@ module _ (bytes : List ℕ) (i : Index) (offsets : List ℕ) (s : Position) wher
       closed (finishes h k l) = refl
 
   -- an instruction that stops has such a number, and so has a step of a program
-  pub stop-number : (w : Instruction) (question : ℕ) → perform bytes i offsets s w ≡ stop question → Number question
+  pub stop-number : (w : Instruction) (question : ℕ) → perform bytes i offsets s w ≡ stop question → RefusalNumber question
   stop-number w question e = rw e at (goes w)
 
-  pub step-number : (program : List ℕ) (question : ℕ) → runStep bytes i offsets program s ≡ stop question → Number question
+  pub step-number : (program : List ℕ) (question : ℕ) → runStep bytes i offsets program s ≡ stop question → RefusalNumber question
   unfolding runStep runLine performDecoded ask
   step-number program question h = on (ltb (s .steps) (i .bounds .steps)) (instructionOn i program (top s .procedure) (top s .line)) h
     where
-      on : (b : Bool) (d : Decoded) → ask b STEPS (performDecoded bytes i offsets s d) ≡ stop question → Number question
+      on : (b : Bool) (d : Decoded) → ask b STEPS (performDecoded bytes i offsets s d) ≡ stop question → RefusalNumber question
       on true (Is w) k = stop-number w question k
       on true Nothing k = let z : EMPTY ≡ question = cc in omega (arith, z)
       on false d k = let z : STEPS ≡ question = cc in omega (arith, z)

@@ -29,7 +29,7 @@ use Rattle.step.specs.declared.perform.Stepped.{Stepped}
 use Rattle.step.specs.declared.position.Position.{Position}
 use Rattle.step.proofs.Laws.Answers.{steps-used, steps-left}
 use Rattle.step.proofs.Laws.Kept.{run-possible}
-use Rattle.step.proofs.Laws.Perform.{Number, step-ran, ran-steps, step-number}
+use Rattle.step.proofs.Laws.Perform.{RefusalNumber, step-ran, ran-steps, step-number}
 use Rattle.step.proofs.Laws.Possible.{parts}
 
 -- task and program passed: `h` says whether the position is possible
@@ -94,15 +94,15 @@ module _ (bytes program : List ℕ) (s : Position) where
     pub unfinished : 0 < s .depth
     pub ran : runStep bytes (t .index) (t .offsets) program s ≡ go u
 
-  -- a refusal: the task's, the program's, or where both pass that of a question that is asked, 31 or after at most S steps
-  pub data Refuses (question place : ℕ) : Type 0 where
-    of-task : readTask bytes .verdict ≡ Refused question place → Refuses question place
-    of-program : Passed bytes t → programVerdict (t .index) (t .presets) program ≡ Refused question place → Refuses question place
-    of-run : Passed bytes t → Number question → place ≤ t .index .bounds .steps → Refuses question place
+  -- whose refusal it is: the task's; where it passes, the program's, or the run's, with a place of at most S
+  pub data RefusedBy (question place : ℕ) : Type 0 where
+    of-task : readTask bytes .verdict ≡ Refused question place → RefusedBy question place
+    of-program : Passed bytes t → programVerdict (t .index) (t .presets) program ≡ Refused question place → RefusedBy question place
+    of-run : Passed bytes t → RefusalNumber question → place ≤ t .index .bounds .steps → RefusedBy question place
 
   -- its answers: a refusal, or the finish, at the position as it was, or a step that was made
   pub data Answers : Stepped → Type 0 where
-    refuses : (question place : ℕ) → Refuses question place → Answers (unchanged s (Refused question place))
+    refuses : (question place : ℕ) → RefusedBy question place → Answers (unchanged s (Refused question place))
     stays : Answers (unchanged s (Accepted 0))
     makes : (u : Position) → Made u → Answers (record { verdict = Accepted 1; position = u })
 
@@ -120,7 +120,7 @@ module _ (bytes program : List ℕ) (s : Position) where
       (λ p. cond-either Answers (eqb (s .depth) 0) _ _ (λ z. stays) (λ z. turn-answers h p (omega (arith, eqb-false (s .depth) 0 z)) _ refl))
       (λ z. refuses POSSIBLE 0 (of-run h (omega arith) (omega arith)))
 
-  following-answers : (v : Verdict) (rest : Stepped) → ((question place : ℕ) → v ≡ Refused question place → Refuses question place)
+  following-answers : (v : Verdict) (rest : Stepped) → ((question place : ℕ) → v ≡ Refused question place → RefusedBy question place)
       → ((value : ℕ) → v ≡ Accepted value → Answers rest) → Answers (following s v rest)
   unfolding following
   following-answers (Accepted value) rest k h = h value refl
@@ -162,11 +162,11 @@ module _ (bytes program : List ℕ) (s : Position) where
       let kept = run-possible bytes t (m .passes) s (m .possible) (m .unfinished) room program _ (m .ran) in
       (kept .0, kept .1, ran-steps bytes _ _ s program _ (step-ran bytes _ _ s program _ (m .ran) .1))
 
-  -- so its verdict has what the task's and the program's have, 0 and 0 and 0 and 1, and a refusal of a question that is asked after at most S steps
+  -- a property of the task's verdict, of the program's, of the acceptances and of the run's refusals is one of the verdict
   pub single-has : (Q : Verdict → Type 0) → Q (readTask bytes .verdict)
       → (Passed bytes (readTask bytes .layout) → Q (programVerdict (readTask bytes .layout .index) (readTask bytes .layout .presets) program))
       → ((value : ℕ) → value ≤ 1 → Q (Accepted value))
-      → ((question place : ℕ) → Passed bytes (readTask bytes .layout) → Number question → place ≤ readTask bytes .layout .index .bounds .steps
+      → ((question place : ℕ) → Passed bytes (readTask bytes .layout) → RefusalNumber question → place ≤ readTask bytes .layout .index .bounds .steps
       → Q (Refused question place))
       → Q (singleStep bytes program s .verdict)
   unfolding unchanged

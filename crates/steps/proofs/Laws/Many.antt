@@ -1,5 +1,5 @@
 -- A call for a number of steps, by what is asked first: the task's verdict, the program's, question 31; and what a call is admitted with. A position that
--- a function is passed has 16 frames.
+-- a function is passed has 16 frames. And what the call's verdict can be.
 -- Assumes nothing.
 use Prim.Native.Nat.{ℕ, zero, suc, _+_, _≤_}
 use mathlib.Core.Path.{_≡_, refl, sym, ap, _∙_}
@@ -93,7 +93,7 @@ module _ (bytes program : List ℕ) (r : Reading) (v : Verdict) (b : BothPass by
         frames = size;
       }
 
--- the verdict of a number of steps has what the task's and the program's have, 31 at 0, any single step's, and an acceptance
+-- a property of the task's verdict, of the program's, of 31 at 0, of every single step's and of an acceptance is one of the verdict
 module _ (Q : Verdict → Type 0) (bytes program : List ℕ) where
   abbrev Taken : StepsTaken → Type 0
   Taken r = Q (r .answer .verdict)

@@ -1,5 +1,5 @@
--- A task that is turned down has a number from 1 to 9, and its place is an offset of the file; one that passes has 0 and 0. For a record that passes
--- question 1 ends in the file.
+-- A task's answer has a number of at most 9, and a value of at most the file's length: a place is an offset of the file, since a record that passes
+-- question 1 ends in it.
 -- Assumes nothing.
 use Prim.Native.Nat.{ℕ, _+_, _≤_}
 use mathlib.Core.List.{List}

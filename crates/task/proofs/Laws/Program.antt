@@ -207,7 +207,7 @@ module _ (i : Index) (program : List ℕ) (procedure : Proc) (line : Line) (is :
   pub line-spelled : (v : Instruction) → spelled w ≡ Is v → instructionOn i program procedure line ≡ Is v
   line-spelled v k = decoded ∙ spells .1 v k
 
--- a program's own verdict has what its refusals, from 25 on and at the offset of a line or 0, and an acceptance have
+-- a property of its refusals, with a number from 25 on at the offset of a line or 0, and of an acceptance is one of a program's own verdict
 module _ (Q : Verdict → Type 0) (i : Index) where
   every-has : (question : ℕ) (test : ℕ → Bool) (rest : Verdict) → ((k : ℕ) → k ≤ lineCount (i .bounds) → Q (Refused question (3 * k))) → Q rest
       → Q (everyLine i question test rest)

@@ -27,7 +27,7 @@ pub fn not(fact: impl Into<String>) -> Literal {
 #[derive(Clone, Debug, PartialEq, Eq)]
 pub struct Effect {
     pub(super) condition: Vec<Literal>,
-    /// A fact that is raised as true, one that is lowered as false.
+    /// The facts raised, as `is`, and those lowered, as `not`.
     pub(super) change: Vec<Literal>,
 }
 
@@ -51,7 +51,7 @@ impl Effect {
         self
     }
 
-    /// Makes facts false, but for those that another effect raises that fires with this one.
+    /// Makes facts false, but for those that another effect raises, firing with this one.
     pub fn lowers(mut self, facts: impl IntoIterator<Item = impl Into<String>>) -> Effect {
         self.change.extend(facts.into_iter().map(not));
         self

@@ -64,10 +64,14 @@ impl Caller {
         self.comparison.ask(Request::Step { task, program, run });
     }
 
-    /// A single step that raises a fact by one effect and lowers it by another; it has to be made.
-    pub fn meet(&mut self, task: &[u8], program: &[u8], run: Run) {
+    /// A single step that raises these facts by one effect and lowers them by another: it has to be made, and leave them true.
+    pub fn meet(&mut self, task: &[u8], program: &[u8], run: Run, both: u64) {
         let outcome = self.comparison.ask(Request::Step { task, program, run });
         assert_eq!(outcome.answer.number, 0, "a step of the run");
+        match outcome.lent {
+            Lent::Record(after) => assert_eq!(after.facts & both, both, "raised beats lowered"),
+            _ => unreachable!("a step is lent a record"),
+        }
         self.comparison.tally.meetings += 1;
     }
 

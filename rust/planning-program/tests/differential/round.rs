@@ -103,8 +103,8 @@ fn ask_steps(caller: &mut Caller, sample: &Sample, task: &[u8], program: &[u8]) 
 fn ask_meeting(caller: &mut Caller, sample: &Sample) {
     let meetings = sample.meetings();
     if !meetings.is_empty() {
-        let run = caller.random.pick(&meetings);
-        caller.meet(&sample.file, &sample.program, run);
+        let (run, both) = caller.random.pick(&meetings);
+        caller.meet(&sample.file, &sample.program, run, both);
     }
 }
 

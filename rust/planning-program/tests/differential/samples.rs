@@ -22,15 +22,15 @@ pub struct Sample {
 }
 
 impl Sample {
-    /// The positions of the run from which a step raises a fact by one effect and lowers it by another.
-    pub fn meetings(&self) -> Vec<Run> {
-        let actions = &self.task.actions;
-        let meets = |position: &&Run| {
-            let action = next_action(&self.task, &self.program, position);
-            action.is_some_and(|action| actions[action].raises_what_it_lowers(position.facts))
+    /// The positions of the run from which a step raises a fact by one effect and lowers it by another, each with these facts.
+    pub fn meetings(&self) -> Vec<(Run, u64)> {
+        let meets = |position: &Run| {
+            let action = next_action(&self.task, &self.program, position)?;
+            let both = self.task.actions[action].raised_and_lowered(position.facts);
+            (both != 0).then_some((*position, both))
         };
         let (_, before_the_last) = self.run.split_last().expect("the start");
-        before_the_last.iter().filter(meets).copied().collect()
+        before_the_last.iter().filter_map(meets).collect()
     }
 }
 

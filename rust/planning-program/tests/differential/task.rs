@@ -133,8 +133,8 @@ impl Pair {
 }
 
 impl Action {
-    /// Whether one effect raises what another lowers, of those that fire where these facts are true.
-    pub fn raises_what_it_lowers(&self, facts: u64) -> bool {
+    /// The facts that one effect raises and another lowers, of those that fire where these facts are true.
+    pub fn raised_and_lowered(&self, facts: u64) -> u64 {
         let (mut raised, mut lowered) = (0, 0);
         for Effect { condition, change } in &self.effects {
             if condition.holds_in(facts) {
@@ -142,7 +142,7 @@ impl Action {
                 lowered |= change.1;
             }
         }
-        raised & lowered != 0
+        raised & lowered
     }
 
     pub fn body(&self) -> Vec<u8> {

@@ -1,6 +1,6 @@
 -- `step::effects::changes_of` meets its contract: effect by effect the words come to have what the fired effects have.
 -- Assumes nothing.
-use mathlib.Core.Path.{sym, _∙_}
+use mathlib.Core.Path.{sym, ap, _∙_}
 use mathlib.Core.Bool.{true, false}
 use native.Mathlib.Omega.{arith}
 use lib.Bits.{or-lt}
@@ -8,6 +8,7 @@ use Prim.Native.Nat.{_-_}
 use Rattle.task.specs.Index.{effectsOf}
 use Rattle.task.specs.declared.index.Effect.{Effect}
 use Rattle.step.specs.Effects.{changesOf}
+use Rattle.step.specs.Facts.{holds}
 use Rattle.step.proofs.Laws.Effects.{Walked, walk-begins, walk-on, walk-ends}
 use Rattle.step.proofs.effects.changes_of.Statement.{statement}
 use Rattle.step.proofs.effects.changes_of.Tie as tie
@@ -22,40 +23,50 @@ abbrev μ-loop : tie.MeasureT-loop
 loop-holds : tie.Need-loop-holds Inv-loop μ-loop
 loop-holds c = (walk-begins _ _ _ _ _, walk-begins _ _ _ _ _)
 
+add-e : tie.Need-add-e Inv-loop μ-loop
+add-e c = record { fits = omega (arith, c .loop-test .taken, c .before .before .before .fits .effects .fits) }
+
 effect-at-requires : tie.Need-effect-at-requires Inv-loop μ-loop
 effect-at-requires c κs =
     let at-start = c .before .before .before in
     omega (arith, c .loop-test .taken, at-start .pre .1)
 
-add-e : tie.Need-add-e Inv-loop μ-loop
-add-e c = record { fits = omega (arith, c .before .loop-test .taken, c .before .before .before .before .fits .effects .fits) }
-
 holds-requires : tie.Need-holds-requires Inv-loop μ-loop
 holds-requires c κs = tt
 
-loop-less : tie.Need-loop-less Inv-loop μ-loop
-loop-less c = omega (arith, c .before .before .before .before .before .loop-test .taken)
+effect-at-requires-2 : tie.Need-effect-at-requires-2 Inv-loop μ-loop
+effect-at-requires-2 c κs =
+    let at-loop-test = c .before .before .before .before in
+    let at-start = at-loop-test .before .before .before in
+    omega (arith, at-loop-test .loop-test .taken, at-start .pre .1)
 
+loop-less : tie.Need-loop-less Inv-loop μ-loop
+loop-less c = omega (arith, c .before .before .before .before .before .before .before .loop-test .taken)
+
+-- the effect is read again where it fires, and is the same
 loop-again : tie.Need-loop-again Inv-loop μ-loop
 loop-again c =
-    let at-holds = c .before .before .before in
-    let at-effect-at = at-holds .before in
+    let at-effect-at2 = c .before .before in
+    let at-holds = at-effect-at2 .before .before in
+    let at-effect-at = at-holds .before .before in
     let at-loop-test = at-effect-at .before in
+    let a = at-loop-test .before .before .before .args in
     let walked = at-loop-test .before .loop .inv in
     let less = at-loop-test .loop-test .taken in
-    let effect = at-effect-at .effect-at .ensures in
-    let fires = sym (c .before .before .if1 .taken) ∙ at-holds .holds .ensures in (
+    let effect = at-effect-at2 .effect-at2 .ensures in
+    let same = at-effect-at .effect-at .ensures ∙ sym effect in
+    let fires = sym (at-effect-at2 .before .if1 .taken) ∙ at-holds .holds .ensures ∙ ap (λ (x : Effect). holds (a .state) (x .condition)) same in (
       walk-on _ _ _ _ _ _ _ (walked .0) less _ effect true fires (or-lt 64 _ _ (walked .0 .small) (c .before .struct-known .given .1 .0 .fits)),
       walk-on _ _ _ _ _ _ _ (walked .1) less _ effect true fires (or-lt 64 _ _ (walked .1 .small) (c .struct-known2 .given .1 .1 .0 .fits)),
     )
 
 loop-less-2 : tie.Need-loop-less-2 Inv-loop μ-loop
-loop-less-2 c = omega (arith, c .before .before .before .loop-test .taken)
+loop-less-2 c = omega (arith, c .before .before .before .before .loop-test .taken)
 
 loop-again-2 : tie.Need-loop-again-2 Inv-loop μ-loop
 loop-again-2 c =
     let at-holds = c .before in
-    let at-effect-at = at-holds .before in
+    let at-effect-at = at-holds .before .before in
     let at-loop-test = at-effect-at .before in
     let walked = at-loop-test .before .loop .inv in
     let less = at-loop-test .loop-test .taken in
@@ -80,9 +91,10 @@ changes-of-spec =
     Inv-loop
     μ-loop
     loop-holds
-    effect-at-requires
     add-e
+    effect-at-requires
     holds-requires
+    effect-at-requires-2
     loop-less
     loop-again
     loop-less-2

@@ -1,4 +1,4 @@
--- `step::perform::act` meets its contract: question 19 decides, and the words are the facts that the definition has afterwards.
+-- `step::perform::act` meets its contract: question 19 decides, and the word is the facts that the definition has afterwards.
 -- Assumes nothing.
 use mathlib.Core.Path.{ap}
 use native.Mathlib.Omega.{arith}
