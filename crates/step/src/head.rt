@@ -17,13 +17,14 @@ ghost use lib.ListN.{length};
 ghost use Rattle.task.specs.Index.{caseAt};
 ghost use Rattle.step.specs.Head.{headOf, stored, startingHead, callerOf, jumpedHead, advancedHead, pushedHead, poppedHead, caseHead, countedHead, movedHead, Fits};
 
-// A position without the frames below its top one. The facts stand last, so that the compiler keeps each field as a value of its own.
+// A position without the frames below its top one. The facts stand last, so that the compiler keeps each field as a value of its own; which
+// of them it keeps in registers goes by their order too.
 pub struct Head {
-    pub steps: u16,
-    pub case: u8,
-    pub depth: u8,
     pub procedure: Proc,
     pub line: Line,
+    pub steps: u16,
+    pub depth: u8,
+    pub case: u8,
     pub facts: u64,
 }
 
