@@ -4,7 +4,6 @@
 use Prim.Native.Nat.{ℕ, _^_, _≤_, _<_}
 use mathlib.Core.List.{List}
 use native.Mathlib.Omega.{arith}
-use lib.ListN.{length}
 use Rattle.records.specs.Numbers.{AreBytes}
 use Rattle.task.specs.Program.{programVerdict}
 use Rattle.task.specs.Reading.{readTask}

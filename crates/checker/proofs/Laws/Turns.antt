@@ -94,7 +94,7 @@ module _ (bytes : List ℕ) (i : Index) (offsets plan : List ℕ) (s : State) wh
     pub count : steps ≡ s .position .steps
     pub same : program ≡ s .program
 
-  -- what an answer says: a refusal has such a number, and the record's offset as its place, or for 24 the offset behind the closing record
+  -- what an answer says: a refusal has a number that one can have, and the record's offset as its place, or for 24 the offset behind the closing record
   abbrev Ended : Result → Type 0
   Ended (refused question place) = RefusalNumber question × (place ≤ s .at + 4)
   Ended (accepted steps program) = Ends steps program
