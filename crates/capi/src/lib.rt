@@ -1,5 +1,7 @@
 // The entries for C and Rust. Each returns its answer as one number: `pp_steps` number * 2^48 + steps made * 2^32 + place, with the place 0 where the
 // number is 0, and the others number * 2^32 + value.
+#![tactic(auto)]
+
 ghost use Rattle.std.specs.Prelude.{◌≡◌, ◌^◌, ◌<◌};
 ghost use Rattle.task.specs.Reading.{read_task};
 ghost use Rattle.task.specs.Verdict.{value_of};

@@ -1,5 +1,7 @@
 // The checker: a task and a plan to a verdict, and the program that the plan writes. The writer: a task and a program to a verdict, and the
 // program's plan.
+#![tactic(auto)]
+
 pub mod check;
 pub mod plan;
 pub mod questions;

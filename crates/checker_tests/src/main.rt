@@ -3,6 +3,8 @@
 // The input is a run of records. Kind 0: text, written as it is. Any other kind: a task's length and a buffer's (2 bytes each), the
 // buffer, the task, and a program for the writer if the kind is 2, else a plan for the checker. The answer's number and value are
 // written, and the whole buffer afterwards: in hexadecimal, or two sums of its bytes if there are more than 1,024.
+#![tactic(auto)]
+
 use checker::check::check_plan;
 use checker::write::write_plan;
 use libc::{STDIN_FILENO, STDOUT_FILENO};

@@ -1,1 +1,2 @@
 // No code: the published compiled task, what is demanded of the checker over it, and the proofs.
+#![tactic(auto)]

@@ -1,4 +1,6 @@
 // A late case: one more case for a task while a run of it is open.
+#![tactic(auto)]
+
 pub mod late;
 mod put;
 pub mod questions;

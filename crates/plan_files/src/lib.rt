@@ -1,4 +1,6 @@
 // A task and a plan in the working folder's files `task.bin` and `plan.bin`, and the report that is printed on them.
+#![tactic(auto)]
+
 ghost use Rattle.std.specs.Prelude.{◌≡◌, min, ◌≤◌, length};
 ghost use Rattle.io.specs.Counts.{IsPrefixLen};
 ghost use Rattle.listing.specs.Listing.{filled};

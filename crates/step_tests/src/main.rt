@@ -9,6 +9,8 @@
 // case is added to the task of that length in the buffer, and if that is accepted, so many single steps are made on the longer task. Any other kind k: a
 // position, a program and a task; k single steps are made, each from the position that the one before left. After each step or call its number, its value,
 // after a call the number of steps made, and the whole position are written; after the call for a late case its number, its value and the whole buffer.
+#![tactic(auto)]
+
 ghost use Rattle.std.specs.Prelude.{◌+◌, ◌≤◌, length};
 
 use checker::write::write_plan;

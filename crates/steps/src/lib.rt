@@ -1,2 +1,4 @@
 // A number of steps of a caller's run in one call.
+#![tactic(auto)]
+
 pub mod many;

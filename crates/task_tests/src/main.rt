@@ -4,6 +4,8 @@
 // passes; what its readers say is written. Kind 3: a program's length (2 bytes), the program and a task that passes; the
 // program's number and value are written. Kind 4: a number of facts (1 byte) and an action's body; how many of its pairs stand before the
 // first that fails question 6 is written.
+#![tactic(auto)]
+
 ghost use Rattle.std.specs.Prelude.{◌≡◌, true, ◌+◌, ◌≤◌, length};
 
 use libc::{STDIN_FILENO, STDOUT_FILENO};
