@@ -35,7 +35,7 @@ use task::verdict::Verdict;
 
 // What stands at an offset of the plan, after questions 11 to 17: a question that says no; the closing record, with the offset after it; or a step
 // of the top frame's line, with its instruction's three bytes and the next record's offset.
-#[derive(Drop)]
+#[derive(Clone, Copy)]
 pub enum Read {
     Stopped(u8),
     Closing(usize),

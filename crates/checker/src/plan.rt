@@ -5,7 +5,7 @@ ghost use Rattle.checker.specs.Plan.{instruction_of, step_of};
 use task::instruction::Instruction;
 
 // A step writes an instruction on a line and runs it, or repeats the one that is there.
-#[derive(Drop)]
+#[derive(Clone, Copy)]
 pub enum Step {
     Write(Instruction),
     Repeat(Instruction),

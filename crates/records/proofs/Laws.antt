@@ -6,4 +6,3 @@ pub mod Numbers
 pub mod Reader
 pub mod Record
 pub mod Tests
-pub mod Walk

@@ -6,7 +6,7 @@ ghost use Rattle.records.specs.Record.{record_at};
 use crate::record::{Found, record_at};
 
 // A plan, and an offset in it.
-#[derive(Drop)]
+#[derive(Clone, Copy)]
 pub(crate) struct Reader<'a> {
     plan: &'a [u8],
     at: usize,

@@ -5,7 +5,7 @@ ghost use Rattle.records.specs.Record.{record_at};
 use crate::numbers::two_at;
 
 // What stands at an offset.
-#[derive(Drop)]
+#[derive(Clone, Copy)]
 pub enum Found {
     // A whole record: its kind, its body's first offset and length, and the offset after it.
     Record {

@@ -8,7 +8,7 @@ use crate::facts::holds;
 use task::index::effect_at;
 
 // The facts that fired effects raise, and those that they lower.
-#[derive(Drop)]
+#[derive(Clone, Copy)]
 pub struct Changes {
     pub raised: u64,
     pub lowered: u64,

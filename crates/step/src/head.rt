@@ -12,7 +12,7 @@ use task::instruction::{Instruction, Line, Proc};
 
 // A position without the frames below its top one. The facts stand last, so that the compiler keeps each field as a value of its own; which
 // of them it keeps in registers goes by their order too.
-#[derive(Drop)]
+#[derive(Clone, Copy)]
 pub struct Head {
     pub procedure: Proc,
     pub line: Line,

@@ -19,14 +19,14 @@ use task::program::line_instruction;
 use task::verdict::Verdict;
 
 // The answer to an instruction's questions, 28 and 19 to 22: the first that says no, or the facts after an action; any other instruction leaves them.
-#[derive(Drop)]
+#[derive(Clone, Copy)]
 pub enum Asked {
     No(u8),
     Facts(u64),
 }
 
 // The answer to one step, and the position after it: the next one, or after a refusal the same.
-#[derive(Drop)]
+#[derive(Clone, Copy)]
 pub struct Stepped {
     pub verdict: Verdict,
     pub position: Position,

@@ -7,7 +7,7 @@ use task::instruction::{Line, Proc};
 
 // A procedure and a line of it.
 #[repr(C)]
-#[derive(Drop)]
+#[derive(Clone, Copy)]
 pub struct Frame {
     pub procedure: Proc,
     pub line: Line,
@@ -15,7 +15,7 @@ pub struct Frame {
 
 // The stack is the first `depth` frames, the lowest first. In a possible position the others are (0, 0).
 #[repr(C)]
-#[derive(Drop)]
+#[derive(Clone, Copy)]
 pub struct Position {
     pub facts: u64,
     pub steps: u16,

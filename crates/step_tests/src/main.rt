@@ -185,7 +185,7 @@ fn write_on(bytes: &[u8], end: usize, size: usize, run: Position)
 }
 
 // What is to be added to the task of a given length: a start and a goal.
-#[derive(Drop)]
+#[derive(Clone, Copy)]
 struct Late {
     given: usize,
     start: u64,

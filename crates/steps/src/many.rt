@@ -20,14 +20,14 @@ use task::verdict::Verdict;
 const MOST: u16 = 4096;
 
 // What a call answers: its verdict, whose value is the number of steps made, and that number, which stands beside a refusal too.
-#[derive(Drop)]
+#[derive(Clone, Copy)]
 pub struct StepsAnswer {
     pub verdict: Verdict,
     pub made: u16,
 }
 
 // A call's answer, and the position after the last step made, after a refusal too.
-#[derive(Drop)]
+#[derive(Clone, Copy)]
 pub struct StepsTaken {
     pub answer: StepsAnswer,
     pub position: Position,

@@ -5,7 +5,7 @@ ghost use Rattle.task.specs.Facts.{literals_at, within, Greatest, consistent, ca
 use records::numbers::eight_at;
 
 // A pair of fact sets: the facts to be true and the facts to be false.
-#[derive(Drop)]
+#[derive(Clone, Copy)]
 pub struct Literals {
     pub positive: u64,
     pub negative: u64,

@@ -8,23 +8,23 @@ use crate::bounds::Bounds;
 
 // A procedure's number.
 #[repr(C)]
-#[derive(Drop)]
+#[derive(Clone, Copy)]
 pub struct Proc(pub u8);
 
 // A line's number in its procedure.
 #[repr(C)]
-#[derive(Drop)]
+#[derive(Clone, Copy)]
 pub struct Line(pub u8);
 
 // An instruction's three bytes.
-#[derive(Drop)]
+#[derive(Clone, Copy)]
 pub struct Triple {
     pub op: u8,
     pub p: u8,
     pub q: u8,
 }
 
-#[derive(Drop)]
+#[derive(Clone, Copy)]
 pub enum Instruction {
     // No instruction.
     Empty,
@@ -39,7 +39,7 @@ pub enum Instruction {
 }
 
 // Three bytes on a line: an instruction that is allowed there, or none.
-#[derive(Drop)]
+#[derive(Clone, Copy)]
 pub enum Decoded {
     Is(Instruction),
     Nothing,

@@ -17,7 +17,7 @@ use records::numbers::eight_at;
 use records::record::{Found, record_at};
 
 // How far the reading is: the next record's offset, the kind of the record before it, 0 at the start, and the index so far.
-#[derive(Drop)]
+#[derive(Clone, Copy)]
 pub struct Progress {
     pub at: usize,
     pub last: u16,
@@ -25,7 +25,7 @@ pub struct Progress {
 }
 
 // The answer to questions 2 to 8 of a record: the reading goes on, the first question that says no, or it is the closing record.
-#[derive(Drop)]
+#[derive(Clone, Copy)]
 pub enum Answer {
     Yes,
     No(u8),
@@ -33,14 +33,14 @@ pub enum Answer {
 }
 
 // What a file's records come to: the index of a task that passes, or the first question that says no and its place.
-#[derive(Drop)]
+#[derive(Clone, Copy)]
 pub enum Ended {
     Passed(Index),
     Refused(u8, usize),
 }
 
 // A task's verdict, and where the task stands if it is accepted.
-#[derive(Drop)]
+#[derive(Clone, Copy)]
 pub struct Reading {
     pub verdict: Verdict,
     pub layout: Layout,

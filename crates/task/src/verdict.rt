@@ -1,5 +1,5 @@
 // An answer: accepted with a value, or the first question whose answer is no, with its place.
-#[derive(Drop)]
+#[derive(Clone, Copy)]
 pub enum Verdict {
     Accepted { value: usize },
     Refused { question: u8, place: usize },
