@@ -1,0 +1,18 @@
+-- `task::program::allowed_lines` meets its contract: it is the search for the first line that is not allowed. The line's number in its
+-- procedure is counted along.
+-- Assumes nothing.
+use Prim.Native.Nat.{◌+◌, ◌-◌, ◌%◌}
+use mathlib.Core.Path.{◌≡◌, sym}
+use native.Mathlib.Nat.{mod-eq_of_lt}
+use native.Mathlib.Omega.{arith}
+use borrow.Author.Rules.{rules}
+use Rattle.task.specs.Program.{line_allowed}
+use Rattle.task.proofs.Laws.First.{Searching, searching, found-yes, found-no, found_none}
+use Rattle.task.proofs.Laws.Program.{line-next, line-again, line-test}
+use Rattle.task.proofs.program.allowed_lines.Given as goal
+
+abbrev pub invariant-loop-k : goal.invariant-loop-k
+invariant-loop-k l = Searching (line_allowed l.index l.program) l.count l.k × (l.line ≡ l.k % (l.index.bounds.last + 1))
+
+abbrev pub decreases-loop-k : goal.decreases-loop-k
+decreases-loop-k l = l.count - l.k
