@@ -48,6 +48,5 @@ returns-in-4 c =
 
 pub returns-in_default : goal.returns-in_default
 returns-in_default c =
-    let rest = c.in_default.rest in
     λ next. kind-turn _ _ _ _ _ next _ _ _ c.may_stand.ensures c.if-not-may_stand.false _ c.length_fits.ensures c.if-not-length_fits.false _
-    (kind-close _ _ _ _ _ next _ _ rest.0.0.0.1 rest.0.0.1 rest.0.1 rest.1)
+    (kind-close _ _ _ _ _ next _ _ (omega arith) (omega arith) (omega arith) (omega arith))
