@@ -1,8 +1,7 @@
--- The laws of the definitions in specs/, each in a file with the definition's name; in Bytes those of the bytes of a number and of a record, and in Reader, Tests
--- and Walk what several proofs share.
+-- The laws of the definitions in specs/, each in a file with the definition's name; in Bytes those of the bytes of a number and of a record, and in Tests
+-- what several proofs share.
 pub mod Bytes
 pub mod Loop
 pub mod Numbers
-pub mod Reader
 pub mod Record
 pub mod Tests
