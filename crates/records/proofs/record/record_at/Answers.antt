@@ -1,6 +1,5 @@
 -- `records::record::record_at` meets its contract: the tests say whether head and body are all there.
 -- Assumes nothing.
-use borrow.Author.Rules.{rules}
 use native.Mathlib.Omega.{arith}
 use Prim.Native.Nat.{◌+◌}
 use Rattle.records.proofs.Laws.Numbers.{u16-there}

@@ -1,7 +1,6 @@
 -- `task::bounds::bounds_at` meets its contract: each byte is the one that the definition names.
 -- Assumes nothing.
 use Prim.Native.Nat.{◌+◌}
-use borrow.Author.Rules.{rules}
 use native.Mathlib.Omega.{arith}
 use Rattle.records.proofs.Laws.Numbers.{u16-there}
 use Rattle.task.specs.Bounds.{bounds_at}

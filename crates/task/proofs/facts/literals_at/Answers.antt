@@ -1,6 +1,5 @@
 -- `task::facts::literals_at` meets its contract: both sets are there.
 -- Assumes nothing.
-use borrow.Author.Rules.{rules}
 use Rattle.task.proofs.Laws.Facts.{literals-there}
 use Rattle.task.proofs.facts.literals_at.Goals as goal
 

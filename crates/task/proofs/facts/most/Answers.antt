@@ -1,6 +1,5 @@
 -- `task::facts::most` meets its contract: the lowest ones of a word are the greatest such set.
 -- Assumes nothing.
-use borrow.Author.Rules.{rules}
 use native.Mathlib.Omega.{arith}
 use Rattle.task.proofs.Laws.Facts.{most-shifted, most-all}
 use Rattle.task.proofs.facts.most.Goals as goal

@@ -1,12 +1,10 @@
 -- `task::facts::pairs_to` meets its contract: it is the search for the first pair that fails question 6, 16 bytes a pair.
 -- Assumes nothing.
-use Prim.Native.Nat.{ℕ, ◌+◌, ◌-◌, ◌/◌, ◌%◌}
+use Prim.Native.Nat.{ℕ, ◌-◌, ◌/◌, ◌%◌}
 use mathlib.Core.Path.{◌≡◌}
-use native.Mathlib.Omega.{arith}
 use lib.ListN.{length}
-use Rattle.task.specs.Facts.{Greatest, pair_consistent, pairs_before_fault_at, pairs_before_fault}
-use Rattle.task.proofs.Laws.Facts.{pair-test}
-use Rattle.task.proofs.Laws.First.{Searching, searching, found-yes, found-no, found_none}
+use Rattle.task.specs.Facts.{Greatest, pair_consistent}
+use Rattle.task.proofs.Laws.First.{Searching}
 use Rattle.task.proofs.facts.pairs_to.Given as goal
 
 abbrev pub invariant-loop-at : goal.invariant-loop-at

@@ -1,6 +1,5 @@
 -- `task::index::action_at` meets its contract: precondition and length are each read where the definition says.
 -- Assumes nothing.
-use borrow.Author.Rules.{rules}
 use native.Mathlib.Omega.{arith}
 use Prim.Native.Nat.{◌/◌}
 use Rattle.records.proofs.Laws.Numbers.{u16-there}

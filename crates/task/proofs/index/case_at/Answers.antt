@@ -1,7 +1,6 @@
 -- `task::index::case_at` meets its contract: start and goal are each read where the definition says.
 -- Assumes nothing.
 use Prim.Native.Nat.{◌+◌, ◌*◌}
-use borrow.Author.Rules.{rules}
 use native.Mathlib.Omega.{arith}
 use Rattle.records.proofs.Laws.Numbers.{u64-there}
 use Rattle.task.specs.Index.{case_at}

@@ -1,7 +1,6 @@
 -- `task::index::effect_at` meets its contract: condition, raised and lowered are each read where the definition says.
 -- Assumes nothing.
 use Prim.Native.Nat.{◌+◌, ◌*◌}
-use borrow.Author.Rules.{rules}
 use mathlib.Core.Path.{◌≡◌}
 use native.Mathlib.Omega.{arith}
 use Rattle.task.specs.Facts.{literals_at}

@@ -1,6 +1,5 @@
 -- `task::instruction::put_triple` meets its contract: the three bytes are there.
 -- Assumes nothing.
-use borrow.Author.Rules.{rules}
 use mathlib.Core.Path.{refl}
 use lib.ListN.{length-set}
 use native.Mathlib.Omega.{arith}

@@ -2,13 +2,9 @@
 -- procedure is counted along.
 -- Assumes nothing.
 use Prim.Native.Nat.{◌+◌, ◌-◌, ◌%◌}
-use mathlib.Core.Path.{◌≡◌, sym}
-use native.Mathlib.Nat.{mod-eq_of_lt}
-use native.Mathlib.Omega.{arith}
-use borrow.Author.Rules.{rules}
+use mathlib.Core.Path.{◌≡◌}
 use Rattle.task.specs.Program.{line_allowed}
-use Rattle.task.proofs.Laws.First.{Searching, searching, found-yes, found-no, found_none}
-use Rattle.task.proofs.Laws.Program.{line-next, line-again, line-test}
+use Rattle.task.proofs.Laws.First.{Searching}
 use Rattle.task.proofs.program.allowed_lines.Given as goal
 
 abbrev pub invariant-loop-k : goal.invariant-loop-k

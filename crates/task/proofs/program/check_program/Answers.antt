@@ -1,6 +1,5 @@
 -- `task::program::check_program` meets its contract, question by question.
 -- Assumes nothing.
-use borrow.Author.Rules.{rules}
 use native.Mathlib.Omega.{arith}
 use Rattle.task.proofs.Laws.Program.{size-no, lines-no, presets-no, program-good}
 use Rattle.task.proofs.program.check_program.Goals as goal

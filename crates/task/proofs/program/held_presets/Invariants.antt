@@ -1,10 +1,8 @@
 -- `task::program::held_presets` meets its contract: it is the search for the first preset line that does not hold its preset.
 -- Assumes nothing.
 use Prim.Native.Nat.{◌-◌}
-use mathlib.Core.Path.{sym, ◌∙◌}
-use borrow.Author.Rules.{rules}
 use Rattle.task.specs.Program.{preset_held}
-use Rattle.task.proofs.Laws.First.{Searching, searching, found-yes, found-no, found_none}
+use Rattle.task.proofs.Laws.First.{Searching}
 use Rattle.task.proofs.program.held_presets.Given as goal
 
 abbrev pub invariant-loop-k : goal.invariant-loop-k

@@ -1,6 +1,5 @@
 -- `task::program::line_instruction` meets its contract: the line's bytes are an instruction, and it is the one that they spell.
 -- Assumes nothing.
-use borrow.Author.Rules.{rules}
 use Rattle.task.proofs.Laws.Program.{line-spells, line-spelled}
 use Rattle.task.proofs.program.line_instruction.Goals as goal
 

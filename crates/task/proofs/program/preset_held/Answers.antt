@@ -1,6 +1,5 @@
 -- `task::program::preset_held` meets its contract: a line whose preset's op is 0 is not preset, and any other is compared with its preset.
 -- Assumes nothing.
-use borrow.Author.Rules.{rules}
 use Rattle.task.proofs.Laws.Program.{preset-none, preset-test}
 use Rattle.task.proofs.program.preset_held.Goals as goal
 

@@ -5,7 +5,6 @@ use mathlib.Core.Path.{◌≡◌, ◌∙◌}
 use mathlib.Core.List.{List}
 use native.Mathlib.Omega.{arith}
 use lib.ListN.{length, take, drop}
-use borrow.Author.Rules.{rules}
 use Rattle.task.specs.Facts.{pairs_before_fault_at, pairs_before_fault}
 use Rattle.task.proofs.Laws.Facts.{pairs-part}
 use Rattle.task.proofs.Laws.Reading.{action-full, action-no, action-yes}

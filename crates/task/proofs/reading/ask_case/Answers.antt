@@ -1,6 +1,5 @@
 -- `task::reading::ask_case` meets its contract: questions 4 and 6 decide.
 -- Assumes nothing.
-use borrow.Author.Rules.{rules}
 use Rattle.task.proofs.Laws.Reading.{case_full, case-no, case-yes}
 use Rattle.task.proofs.reading.ask_case.Goals as goal
 

@@ -1,8 +1,6 @@
 -- `task::reading::ask_preset` meets its contract: questions 7 and 8 decide, and the line is put where it belongs.
 -- Assumes nothing.
 use native.Mathlib.Omega.{arith}
-use borrow.Author.Rules.{rules}
-use borrow.Author.Tests.{not-true, not-false}
 use Rattle.task.proofs.Laws.Reading.{preset-line, preset-room, preset-no, preset-again, preset-yes}
 use Rattle.task.proofs.reading.ask_preset.Goals as goal
 

@@ -1,6 +1,5 @@
 -- `task::reading::ask_record` meets its contract: questions 2 and 3 decide, and then what the kind asks.
 -- Assumes nothing.
-use borrow.Author.Tests.{not-true, not-false}
 use mathlib.Core.Path.{sym, ◌∙◌}
 use native.Mathlib.Omega.{arith}
 use Rattle.task.proofs.Laws.Reading.{kind-no, length-no, kind-turn, header-body, preset-body, case-body, kind-header, kind-action, kind-preset, kind-case, kind-close, header-no, header-yes}

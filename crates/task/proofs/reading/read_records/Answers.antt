@@ -1,14 +1,11 @@
 -- `task::reading::read_records` meets its contract: what is left to read at each turn is what the whole file reads to.
 -- Assumes nothing.
-use Prim.Native.Nat.{◌-◌}
-use borrow.Author.Rules.{rules}
-use mathlib.Core.Path.{◌≡◌, sym}
-use lib.ListN.{length}
-use Rattle.task.specs.Outcome.{state, reading_of}
-use Rattle.task.specs.Reading.{begin, read_task}
-use Rattle.task.proofs.Laws.Passed.{Reached, begin-reached, next-reached, next-bounded}
+use mathlib.Core.Path.{sym}
+use Rattle.task.specs.Outcome.{reading_of}
+use Rattle.task.specs.Reading.{begin}
+use Rattle.task.proofs.Laws.Passed.{begin-reached, next-reached, next-bounded}
 use Rattle.task.proofs.Laws.Reading.{body-there, header-body}
-use Rattle.task.proofs.Laws.Turns.{from, from-begin, from_next, from-stop, falls, turn-missing, turn-no, turn-trailing, turn-closed, turn-next, next_fits}
+use Rattle.task.proofs.Laws.Turns.{from-begin, from_next, from-stop, falls, turn-missing, turn-no, turn-trailing, turn-closed, turn-next, next_fits}
 use Rattle.task.proofs.reading.read_records.Goals as goal
 
 pub loop-kind-init : goal.loop-kind-init

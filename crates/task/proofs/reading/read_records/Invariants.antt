@@ -1,14 +1,12 @@
 -- `task::reading::read_records` meets its contract: what is left to read at each turn is what the whole file reads to.
 -- Assumes nothing.
 use Prim.Native.Nat.{◌-◌}
-use borrow.Author.Rules.{rules}
-use mathlib.Core.Path.{◌≡◌, sym}
+use mathlib.Core.Path.{◌≡◌}
 use lib.ListN.{length}
-use Rattle.task.specs.Outcome.{state, reading_of}
-use Rattle.task.specs.Reading.{begin, read_task}
-use Rattle.task.proofs.Laws.Passed.{Reached, begin-reached, next-reached, next-bounded}
-use Rattle.task.proofs.Laws.Reading.{body-there, header-body}
-use Rattle.task.proofs.Laws.Turns.{from, from-begin, from_next, from-stop, falls, turn-missing, turn-no, turn-trailing, turn-closed, turn-next, next_fits}
+use Rattle.task.specs.Outcome.{state}
+use Rattle.task.specs.Reading.{read_task}
+use Rattle.task.proofs.Laws.Passed.{Reached}
+use Rattle.task.proofs.Laws.Turns.{from}
 use Rattle.task.proofs.reading.read_records.Given as goal
 
 abbrev pub invariant-loop-kind : goal.invariant-loop-kind

@@ -1,6 +1,5 @@
 -- `task::reading::read_task` meets its contract: the records' answer, with the arrays that they filled.
 -- Assumes nothing.
-use borrow.Author.Rules.{rules}
 use mathlib.Core.Path.{refl, ◌∙◌}
 use Rattle.task.specs.Outcome.{reading_of}
 use Rattle.task.specs.Reading.{no_layout, accepted}

@@ -1,7 +1,5 @@
 -- `task::reading::with_record` meets its contract, kind by kind.
 -- Assumes nothing.
-use borrow.Author.Rules.{rules}
-use mathlib.Core.Logic.{⊎_elim}
 use mathlib.Core.Path.{◌≡◌, ap}
 use native.Mathlib.Omega.{arith}
 use Rattle.task.specs.declared.index.Index.{Index}
@@ -25,9 +23,9 @@ returns-in-2 c = with-action _ _ _ _ _ c.in-2.is
 
 pub returns-after-index-eq0 : goal.returns-after-index-eq0
 returns-after-index-eq0 c = elim c.if-index-eq0.branch [
-      then-index-eq0 w ↦ with_first _ _ _ _ _ _ c.in-4.is w.if-index-eq0.true w.index-is
-    | else-index-eq0 w ↦ with-later _ _ _ _ _ _ c.in-4.is w.if-index-eq0.false w.index-is
-    ]
+  | then-index-eq0 w ↦ with_first _ _ _ _ _ _ c.in-4.is w.if-index-eq0.true w.index-is
+  | else-index-eq0 w ↦ with-later _ _ _ _ _ _ c.in-4.is w.if-index-eq0.false w.index-is
+]
 
 pub returns-in_default : goal.returns-in_default
 returns-in_default c = with-other _ _ _ _ _ (omega arith) (omega arith) (omega arith)

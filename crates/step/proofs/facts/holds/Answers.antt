@@ -2,11 +2,7 @@
 -- Assumes nothing.
 use borrow.Author.Rules.{rules}
 use Rattle.step.proofs.Laws.Facts.{holds-word}
-use Rattle.step.proofs.facts.holds.Statement.{statement}
-use Rattle.step.proofs.facts.holds.Tie as tie
+use Rattle.step.proofs.facts.holds.Goals as goal
 
-returns : tie.Need-returns
+pub returns : goal.returns
 returns c = holds-word _ _ (search rules) (search rules)
-
-pub holds-spec : {M : Type 1} → statement M
-holds-spec = tie.close (tie.spec returns)
