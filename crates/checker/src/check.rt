@@ -19,7 +19,6 @@ use crate::plan::{Step, instruction_of, step_of};
 use crate::questions::{
     ALLOWED, BUFFER, FINISHED, LINE, OPEN, PLAN_CLOSED, PLAN_KIND, PLAN_LENGTH, PLAN_RECORD, TOP,
 };
-use bytes::copy;
 use records::reader::plan_record;
 use records::record::Found;
 use step::head::Head;
@@ -235,7 +234,7 @@ pub(crate) fn put(buffer: &mut [u8], at: usize, size: usize, others: &[u8])
     requires { (at + size ≤ length buffer.old) × (size ≤ length others.now) }
     ensures { buffer.new ≡ with_bytes buffer.old at size others.now }
 {
-    copy(&others[..size], &mut buffer[at..]);
+    buffer[at..at + size].copy_from_slice(&others[..size]);
 }
 
 // Checks a plan against a task that passes, with its preset lines in `program`: question 10, and then what the plan asks.

@@ -4,11 +4,11 @@
 use Prim.Native.Nat.{ℕ, ◌+◌, ◌*◌, ◌-◌, ◌/◌, ◌%◌, ◌≤◌, ◌<◌}
 use mathlib.Core.Path.{◌≡◌, refl, sym, ap, ◌∙◌}
 use mathlib.Core.Bool.{Bool, true, false, cond}
-use mathlib.Core.List.{List, [], ◌∷◌, ◌++◌, append_assoc, append-nil}
+use mathlib.Core.List.{List, [], ◌∷◌, ◌++◌, append_assoc}
 use native.Mathlib.Omega.{arith}
 use lib.Dec.{eqb}
-use lib.ListN.{length, take, drop, get_or, length-append, length-drop, drop_of_length-le}
-use lib.Seq.{length-take-le, take-length, take_all, take-append_seam, drop-append-add, drop-drop}
+use lib.ListN.{length, take, drop, get_or, length-append}
+use lib.Seq.{take-length, take_all, take-append_seam, drop-append-add, drop-drop}
 use mir.Val.{bool_byte}
 use borrow.Author.Tests.{le-leb, lt-leb}
 use Rattle.records.specs.Numbers.{byte_at, number_bytes}
@@ -34,24 +34,13 @@ use Rattle.checker.proofs.Laws.Check.{step-instruction, written-length}
 use Rattle.checker.proofs.Laws.Trace.{lines_next, records-next, record_next, next-length, records-length}
 use Rattle.checker.proofs.Laws.Write.{closing-length}
 
--- bytes that are copied to the rest of a buffer: those before and behind them keep their value
-pub put_in : (at size : ℕ) (buffer others after : List ℕ) → size ≤ length others
-    → after ≡ take (length (take size others)) (take size others) ++ drop (length (take size others)) (take (length buffer - at) (drop at buffer))
-    → take at buffer ++ (after ++ drop (length buffer - at) (drop at buffer)) ≡ with_bytes buffer at size others
+-- bytes that are copied to a part of a buffer: those before and behind them keep their value
+pub put_in : (at size : ℕ) (buffer others : List ℕ)
+    → take at buffer ++ (take size others ++ drop (at + size - at) (drop at buffer)) ≡ with_bytes buffer at size others
 unfolding with_bytes
-put_in at size buffer others after h e =
-    let n = length buffer - at in
-    let room : length (drop at buffer) ≤ n = omega (arith, length-drop at buffer) in
-    rw (
-      e,
-      take-length (take size others),
-      length-take-le size others h,
-      take_all n (drop at buffer),
-      drop_of_length-le (drop at buffer) room,
-      append-nil,
-      drop-drop size at buffer,
-    )
-    refl
+put_in at size buffer others =
+    let n : at + size - at ≡ size = omega arith in
+    rw (n, drop-drop size at buffer) refl
 
 -- bytes that are put behind the records so far: those behind both keep their value
 put_next : (records plan added : List ℕ) (at size : ℕ) → length records ≡ at → length added ≡ size
