@@ -69,12 +69,12 @@ visits-length (a ∷ rest) = ap suc (visits-length rest)
 pub steps-length : (known : Frame → Bool) (τ : List Visit) → length (steps_of known τ) ≡ length τ
 unfolding steps_of
 steps-length known [] = refl
-steps-length known (v ∷ rest) = ap suc (steps-length _ rest)
+steps-length known (v ∷ rest) = ap suc (steps-length (λ f. same_frame v.frame f || known f) rest)
 
 pub chain-visits : (known : Frame → Bool) (τ : List Visit) → visits_of (steps_of known τ) ≡ τ
 unfolding steps_of visits_of instruction_of
 chain-visits known [] = refl
-chain-visits known (v ∷ rest) = rw (either (known v.frame), chain-visits _ rest) refl
+chain-visits known (v ∷ rest) = rw (either (known v.frame), chain-visits (λ f. same_frame v.frame f || known f) rest) refl
   where
     either : (b : Bool) → instruction_of (cond b (Repeat v.instruction) (Write v.instruction)) ≡ v.instruction
     either true = refl

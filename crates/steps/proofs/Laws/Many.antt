@@ -1,5 +1,4 @@
--- A call for a number of steps, by what is asked first: the task's verdict, the program's, question 31; and what a call is admitted with. A position that
--- a function is passed has 16 frames. And what the call's verdict can be.
+-- A call for a number of steps, by what is asked first: the task's verdict, the program's, question 31. And what the call's verdict can be.
 -- Assumes nothing.
 use Prim.Native.Nat.{ℕ, zero, suc, ◌+◌, ◌≤◌}
 use mathlib.Core.Path.{◌≡◌, refl, sym, ap, ◌∙◌}
@@ -7,12 +6,8 @@ use mathlib.Core.Bool.{Bool, true, false}
 use mathlib.Core.List.{List}
 use native.Mathlib.Decide.{dec_lt}
 use native.Mathlib.Omega.{arith}
-use lib.ListN.{length, length-map}
 use lib.Dec.{eqb}
 use borrow.Author.Tests.{lt-ltb, le-ltb}
-use mir.Val.{Val}
-use denote.Laws.{Is}
-use denote.Struct.Laws as LL
 use Rattle.records.proofs.Laws.Tests.{cond_either, cond_yes, cond_no}
 use Rattle.task.specs.Program.{program_verdict}
 use Rattle.task.specs.Reading.{read_task}
@@ -24,14 +19,8 @@ use Rattle.step.specs.Possible.{possible}
 use Rattle.step.specs.Questions.{POSSIBLE}
 use Rattle.step.specs.Single.{single_step}
 use Rattle.step.specs.declared.position.Position.{Position}
-use Rattle.step.specs.contracts.position.Position as P
-use Rattle.step.proofs.position.Position.TheLaws as P'
 use Rattle.steps.specs.Many.{capped, taken_to, onward, steps_from, many_on_reading, many_steps}
-use Rattle.steps.specs.Running.{Admitted}
 use Rattle.steps.specs.declared.many.StepsTaken.{StepsTaken}
-
-pub sixteen : (s : Position) (vs : List Val) → Is P.the_row s vs → length s.frames ≡ 16
-sixteen s vs is = sym (length-map s.frames _) ∙ (LL.owed P.the_type P'.the_laws s vs is).1.1.1.1.0.1.0.1
 
 -- the number of steps that is asked for
 pub many-asked : (count : ℕ) → 4096 ≤ count → 4096 ≡ capped count
@@ -79,19 +68,6 @@ module _ (bytes program : List ℕ) (r : Reading) (v : Verdict) (b : BothPass by
   pub many-runs : p ≡ true → (count wanted : ℕ) → wanted ≡ capped count → steps_from bytes program wanted 0 s ≡ many_steps bytes program count s
   unfolding many_on_reading onward
   many-runs y count wanted c = rw c (rw (b.task, ← b.asked, b.passes, ← f, y) at (on-reading bytes program count s r b.read))
-
-  pub many-admitted : p ≡ true → length s.frames ≡ 16 → Admitted bytes r.layout.index r.layout.offsets program s
-  many-admitted y size =
-      record {
-        value = b.value;
-        task = rw (← b.read) b.task;
-        index = rw (← b.read) refl;
-        offsets = rw (← b.read) refl;
-        checked = b.own;
-        program = rw (← b.read) (sym b.asked ∙ b.passes);
-        possible = sym f ∙ y;
-        frames = size;
-      }
 
 -- a property of the task's verdict, of the program's, of 31 at 0, of every single step's and of an acceptance is one of the verdict
 module _ (Q : Verdict → Type 0) (bytes program : List ℕ) where

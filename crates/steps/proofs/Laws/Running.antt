@@ -66,7 +66,7 @@ module _ (h : Head) (frames : List Frame) (size : length frames ≡ 16) (d : h.d
   unfolding over top
   over-top = get_or-set_same frames (h.depth - 1) (top_of h) origin (omega (arith, size, d))
 
-  pub over-head : h ≡ head_of (over h frames)
+  over-head : h ≡ head_of (over h frames)
   unfolding over head_of top_of top
   over-head =
       ap (λ (f : Frame). record { facts = h.facts; steps = h.steps; case = h.case; depth = h.depth; procedure = f.procedure; line = f.line })
@@ -191,7 +191,7 @@ module _ (bytes : List ℕ) (i : Index) (offsets program : List ℕ) (first : Po
       unfolding over
       reached-few = possible-depth i (over h frames) admitted-held.task r.standing
 
-      reached-head : h ≡ head_of (over h frames)
+      pub reached-head : h ≡ head_of (over h frames)
       reached-head = over-head h frames r.size reached-few
 
       -- the call is accepted there

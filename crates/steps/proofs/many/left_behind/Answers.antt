@@ -8,9 +8,6 @@ use Rattle.step.specs.Head.{left_by}
 use Rattle.step.specs.Position.{origin}
 use Rattle.steps.proofs.many.left_behind.Goals as goal
 
-pub caller-requires : goal.caller-requires
-caller-requires c = c.requires
-
 pub returns-then-head-depth : goal.returns-then-head-depth
 unfolding left_by
 returns-then-head-depth c =
