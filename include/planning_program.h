@@ -1,6 +1,6 @@
 /* Checks and writes plans of planning programs: the C interface of the proved library, for C11 and C++11 or later.
  *
- * Link target/staticlib/libcapi.a, which `rt staticlib capi` makes. docs/FORMATS.md fixes the files, the questions and the places;
+ * Link target/staticlib/libcapi.a, which `./build-library` makes. docs/FORMATS.md fixes the files, the questions and the places;
  * examples/c/check_and_write.c uses every function but pp_check_task.
  */
 #ifndef PLANNING_PROGRAM_H

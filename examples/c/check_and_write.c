@@ -1,7 +1,7 @@
 /* Checks the plan in a folder, prints its program, writes the program back to a plan and runs it, by single steps and by forty in a call, and
  * once more with a case added while it runs.
  *
- * Build it from the root of the repository, once `rt staticlib capi` has made the library:
+ * Build it from the root of the repository, once `./build-library` has made the library:
  *
  *     cc -std=c11 -Wall -Wextra -Werror -I include -o target/check_and_write examples/c/check_and_write.c target/staticlib/libcapi.a
  *

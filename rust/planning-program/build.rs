@@ -1,4 +1,4 @@
-//! Links the static library that `rt staticlib capi` makes.
+//! Links the static library that `build-library` makes, at the top of the repository.
 
 use std::path::Path;
 

@@ -1,5 +1,5 @@
-// The entries for C and Rust. Each returns its answer as one number: `pp_steps` number * 2^48 + steps made * 2^32 + place, with the place 0 where the
-// number is 0, and the others number * 2^32 + value.
+// The entries for C and Rust, which the crate `capi_c` exports. Each returns its answer as one number: `pp_steps` number * 2^48 + steps made * 2^32 +
+// place, with the place 0 where the number is 0, and the others number * 2^32 + value.
 #![tactic(auto)]
 
 ghost use Rattle.std.specs.Prelude.{◌≡◌, ◌^◌, ◌<◌};
@@ -50,8 +50,7 @@ fn packed_steps(answer: StepsAnswer) -> u64
 }
 
 // A task's verdict: questions 1 to 9.
-#[unsafe(no_mangle)]
-pub extern "C" fn pp_check_task(task: &[u8]) -> u64
+pub fn pp_check_task(task: &[u8]) -> u64
     ensures { result ≡ packed (read_task task.now).verdict }
 {
     let reading = read_task(task);
@@ -61,8 +60,7 @@ pub extern "C" fn pp_check_task(task: &[u8]) -> u64
 
 // A plan's verdict for a task: questions 1 to 24. If it is accepted, its program fills the buffer's first bytes; a refusal leaves the
 // buffer as it was.
-#[unsafe(no_mangle)]
-pub extern "C" fn pp_check_plan(task: &[u8], plan: &[u8], program: &mut [u8]) -> u64
+pub fn pp_check_plan(task: &[u8], plan: &[u8], program: &mut [u8]) -> u64
     ensures { (result ≡ packed (check task.now plan.now program.old).verdict)
         × (program.new ≡ (check task.now plan.now program.old).buffer) }
 {
@@ -72,8 +70,7 @@ pub extern "C" fn pp_check_plan(task: &[u8], plan: &[u8], program: &mut [u8]) ->
 
 // A program's verdict for a task: questions 1 to 9 and 25 to 29, with 14 and 19 to 22 of each step. If it is accepted, its plan fills the
 // buffer's first bytes; a refusal leaves the buffer as it was.
-#[unsafe(no_mangle)]
-pub extern "C" fn pp_write_plan(task: &[u8], program: &[u8], plan: &mut [u8]) -> u64
+pub fn pp_write_plan(task: &[u8], program: &[u8], plan: &mut [u8]) -> u64
     ensures { (result ≡ packed (write task.now program.now plan.old).verdict)
         × (plan.new ≡ (write task.now program.now plan.old).buffer) }
 {
@@ -83,8 +80,7 @@ pub extern "C" fn pp_write_plan(task: &[u8], program: &[u8], plan: &mut [u8]) ->
 
 // One instruction of a caller's run: questions 1 to 9, 25 to 27 and 31, and then 14, 28 and 19 to 22. The run record then has the next
 // position; after a refusal, and when the run is finished, it is as it was.
-#[unsafe(no_mangle)]
-pub extern "C" fn pp_step(task: &[u8], program: &[u8], run: &mut Position) -> u64
+pub fn pp_step(task: &[u8], program: &[u8], run: &mut Position) -> u64
     ensures { (result ≡ packed (single_step task.now program.now run.old).verdict)
         × (run.new ≡ (single_step task.now program.now run.old).position) }
 {
@@ -94,8 +90,7 @@ pub extern "C" fn pp_step(task: &[u8], program: &[u8], run: &mut Position) -> u6
 
 // A number of instructions of a caller's run, at most 4,096: questions 1 to 9, 25 to 27 and 31 once, and then 14, 28 and 19 to 22 before each. It stops
 // early at the finish and at a refusal. The run record then has the position after the last one that was run, after a refusal too.
-#[unsafe(no_mangle)]
-pub extern "C" fn pp_steps(task: &[u8], program: &[u8], count: u64, run: &mut Position) -> u64
+pub fn pp_steps(task: &[u8], program: &[u8], count: u64, run: &mut Position) -> u64
     ensures { (result ≡ packed_steps (many_steps task.now program.now count run.old).answer)
         × (run.new ≡ (many_steps task.now program.now count run.old).position) }
 {
@@ -123,8 +118,7 @@ fn added_case(
 // Adds a case to the task that the buffer's first `given` bytes are, under a run that is only read: questions 1 to 9, 31 to 34, and 6 of the new sets. A
 // length above the buffer's means all of it. If it is accepted, the buffer begins with the longer task, whose length is the value, and later bytes keep
 // their value; a refusal leaves the buffer as it was.
-#[unsafe(no_mangle)]
-pub extern "C" fn pp_add_case(
+pub fn pp_add_case(
     buffer: &mut [u8],
     given: usize,
     start: u64,

@@ -192,7 +192,7 @@ fn late_cases() {
 
 #[test]
 fn prints() {
-    let program = in_repository("target/bin/check_plan");
+    let program = in_repository("crates/check_plan/out/check_plan");
     assert!(program.exists(), "no {}: run rust/build", program.display());
     let program = program.canonicalize().expect("the program's path");
     let name = format!("prints-{}", std::process::id());
