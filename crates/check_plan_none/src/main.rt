@@ -1,6 +1,8 @@
 // The program in an empty folder: both files count as empty.
 #![tactic(auto)]
 
-fn main() {
-    plan_files::check_files();
+use std::io;
+
+fn main(rt: HostRuntime) -> io::Result<()> {
+    plan_files::check_files(&rt)
 }

@@ -2,14 +2,16 @@
 #![tactic(auto)]
 
 ghost use Rattle.std.specs.Prelude.{◌≡◌, min, ◌≤◌, length};
-ghost use Rattle.io.specs.Counts.{IsPrefixLen};
+ghost use Rattle.std.specs.Counts.{IsPrefixLen};
 ghost use Rattle.listing.specs.Listing.{filled};
 ghost use Rattle.task.specs.declared.verdict.Verdict.TheVariants.{Refused};
 ghost use Rattle.plan_files.specs.Files.{FILE-LENGTH, LONGEST, check_files, printed};
 
 use checker::check::check_plan;
-use libc::STDOUT_FILENO;
 use listing::listing::report;
+use std::io::Read;
+use std::rt::Files;
+use std::{fs, io};
 use task::reading::read_task;
 use task::verdict::Verdict;
 
@@ -61,31 +63,43 @@ fn file_space() -> [u8; 65537]
     [0; 65537]
 }
 
-// Reads a file from its start, and answers how many bytes there are: none where it cannot be opened or read.
-fn read_file(path: &[u8], space: &mut [u8]) -> usize
+// Reads until the space is full, the file ends or a read fails, and answers how many bytes it read.
+fn read_full(file: &mut impl Read, space: &mut [u8]) -> usize
     ensures { IsPrefixLen result space.new }
 {
-    let file = os::open_read(path);
-    if file < 0 {
-        return 0;
+    let mut size = 0;
+    while size < space.len() {
+        let read = file.read(&mut space[size..]).unwrap_or(0);
+        if read == 0 {
+            return size;
+        }
+        size += read;
     }
-    let size = io::read_full(file, space);
-    libc::close(file);
     size
 }
 
+// Reads a file from its start, and answers how many bytes there are: none where it cannot be opened or read.
+fn read_file(rt: &impl Files, path: &str, space: &mut [u8]) -> usize
+    ensures { IsPrefixLen result space.new }
+{
+    match fs::open(rt, path) {
+        Ok(mut file) => read_full(&mut file, space),
+        Err(_) => 0,
+    }
+}
+
 // Prints the report, all of it.
-fn write_report(task: &[u8], plan: &[u8]) {
-    let mut text = io::buffer();
+fn write_report(rt: &impl Print, task: &[u8], plan: &[u8]) -> io::Result<()> {
+    let mut text = [0u8; 4096];
     let size = print_check(task, plan, &mut text);
-    io::write_all(STDOUT_FILENO, &text[..size]);
+    rt.write_all(&text[..size])
 }
 
 // Checks the plan in the working folder and prints the report.
-pub fn check_files() {
+pub fn check_files(rt: &(impl Files + Print)) -> io::Result<()> {
     let mut task = file_space();
     let mut plan = file_space();
-    let task_size = read_file(b"task.bin", &mut task);
-    let plan_size = read_file(b"plan.bin", &mut plan);
-    write_report(&task[..task_size], &plan[..plan_size]);
+    let task_size = read_file(rt, "task.bin", &mut task);
+    let plan_size = read_file(rt, "plan.bin", &mut plan);
+    write_report(rt, &task[..task_size], &plan[..plan_size])
 }

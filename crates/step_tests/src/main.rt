@@ -15,8 +15,8 @@ ghost use Rattle.std.specs.Prelude.{◌+◌, ◌≤◌, length};
 
 use checker::write::write_plan;
 use late_case::late::add_case;
-use libc::{STDIN_FILENO, STDOUT_FILENO};
 use records::numbers::{byte_at, eight_at, two_at};
+use std::io::{self, Read};
 use step::position::{Frame, Position};
 use step::single::single_step;
 use steps::many::many_steps;
@@ -31,44 +31,42 @@ const STEPS: usize = 100;
 
 const PLAN: usize = 904;
 
-fn write(text: &[u8]) {
-    io::write_all(STDOUT_FILENO, text);
+fn write(rt: &impl Print, text: &[u8]) -> io::Result<()> {
+    rt.write_all(text)
 }
 
-fn write_number(label: &[u8], n: u64) {
-    write(label);
-    io::print_decimal(STDOUT_FILENO, n);
+fn write_number(rt: &impl Print, label: &str, n: u64) -> io::Result<()> {
+    print!(rt; "{label}{n}")
 }
 
-fn write_verdict(verdict: Verdict) {
+fn write_verdict(rt: &impl Print, verdict: Verdict) -> io::Result<()> {
     match verdict {
-        Verdict::Accepted { value } => {
-            write_number(b"0 ", value as u64);
-        }
+        Verdict::Accepted { value } => write_number(rt, "0 ", value as u64),
         Verdict::Refused { question, place } => {
-            write_number(b"", question as u64);
-            write_number(b" ", place as u64);
+            write_number(rt, "", question as u64)?;
+            write_number(rt, " ", place as u64)
         }
     }
 }
 
-fn write_frames(frames: [Frame; 16]) {
+fn write_frames(rt: &impl Print, frames: [Frame; 16]) -> io::Result<()> {
     for k in 0..16 {
         let frame = frames[k];
-        write_number(b" ", frame.procedure.0 as u64);
-        write_number(b",", frame.line.0 as u64);
+        write_number(rt, " ", frame.procedure.0 as u64)?;
+        write_number(rt, ",", frame.line.0 as u64)?;
     }
+    Ok(())
 }
 
-fn write_position(position: Position) {
-    write_number(b"; facts ", position.facts);
-    write_number(b" steps ", position.steps as u64);
-    write_number(b" case ", position.case as u64);
-    write_number(b" depth ", position.depth as u64);
-    write(b";");
+fn write_position(rt: &impl Print, position: Position) -> io::Result<()> {
+    write_number(rt, "; facts ", position.facts)?;
+    write_number(rt, " steps ", position.steps as u64)?;
+    write_number(rt, " case ", position.case as u64)?;
+    write_number(rt, " depth ", position.depth as u64)?;
+    write(rt, b";")?;
     let frames = position.frames;
-    write_frames(frames);
-    write(b"\n");
+    write_frames(rt, frames)?;
+    write(rt, b"\n")
 }
 
 // The sixteen frames of a request; (0, 0) where it has none.
@@ -100,88 +98,119 @@ fn position_of(bytes: &[u8]) -> Position
 }
 
 // Makes one step, writes its answer, and gives the position after it.
-fn write_step(task: &[u8], program: &[u8], position: Position) -> Position {
+fn write_step(
+    rt: &impl Print,
+    task: &[u8],
+    program: &[u8],
+    position: Position,
+) -> io::Result<Position> {
     let stepped = single_step(task, program, position);
     let verdict = stepped.verdict;
     let next = stepped.position;
-    write_verdict(verdict);
-    write_position(next);
-    next
+    write_verdict(rt, verdict)?;
+    write_position(rt, next)?;
+    Ok(next)
 }
 
-fn write_steps(count: u16, task: &[u8], program: &[u8], first: Position) {
+fn write_steps(
+    rt: &impl Print,
+    count: u16,
+    task: &[u8],
+    program: &[u8],
+    first: Position,
+) -> io::Result<()> {
     let mut position = first;
     for _ in 0..count {
-        position = write_step(task, program, position);
+        position = write_step(rt, task, program, position)?;
     }
+    Ok(())
 }
 
 // Makes one call for a number of steps, writes its answer, and gives the position after it.
-fn write_call(task: &[u8], program: &[u8], number: u64, position: Position) -> Position {
+fn write_call(
+    rt: &impl Print,
+    task: &[u8],
+    program: &[u8],
+    number: u64,
+    position: Position,
+) -> io::Result<Position> {
     let taken = many_steps(task, program, number, position);
     let answer = taken.answer;
     let verdict = answer.verdict;
     let next = taken.position;
-    write_verdict(verdict);
-    write_number(b" made ", answer.made as u64);
-    write_position(next);
-    next
+    write_verdict(rt, verdict)?;
+    write_number(rt, " made ", answer.made as u64)?;
+    write_position(rt, next)?;
+    Ok(next)
 }
 
-fn write_calls(numbers: &[u8], task: &[u8], program: &[u8], first: Position) {
+fn write_calls(
+    rt: &impl Print,
+    numbers: &[u8],
+    task: &[u8],
+    program: &[u8],
+    first: Position,
+) -> io::Result<()> {
     let mut position = first;
     for k in 0..numbers.len() / 8 {
-        position = write_call(task, program, eight_at(numbers, 8 * k), position);
+        position = write_call(rt, task, program, eight_at(numbers, 8 * k), position)?;
     }
+    Ok(())
 }
 
 // From the position of a request so many single steps, or, where there are numbers of steps, a call for each.
-fn write_request(count: u16, numbers: &[u8], bytes: &[u8]) {
+fn write_request(rt: &impl Print, count: u16, numbers: &[u8], bytes: &[u8]) -> io::Result<()> {
     if bytes.len() < 46 {
-        return;
+        return Ok(());
     }
     let end = 46 + two_at(bytes, 44) as usize;
     if bytes.len() < end {
-        return;
+        return Ok(());
     }
     let task = &bytes[end..];
     let program = &bytes[46..end];
     let first = position_of(bytes);
-    write_steps(count, task, program, first);
-    write_calls(numbers, task, program, first);
+    write_steps(rt, count, task, program, first)?;
+    write_calls(rt, numbers, task, program, first)
 }
 
-fn write_calls_request(bytes: &[u8]) {
+fn write_calls_request(rt: &impl Print, bytes: &[u8]) -> io::Result<()> {
     if bytes.len() < 2 {
-        return;
+        return Ok(());
     }
     let end = 2 + 8 * (two_at(bytes, 0) as usize);
     if bytes.len() < end {
-        return;
+        return Ok(());
     }
-    write_request(0, &bytes[2..end], &bytes[end..]);
+    write_request(rt, 0, &bytes[2..end], &bytes[end..])
 }
 
-fn write_bytes(bytes: &[u8]) {
-    write(b" [");
+fn write_bytes(rt: &impl Print, bytes: &[u8]) -> io::Result<()> {
+    write(rt, b" [")?;
     for k in 0..bytes.len() {
-        io::print_hex(STDOUT_FILENO, byte_at(bytes, k) as u64, 2);
+        print!(rt; "{:02x}", byte_at(bytes, k))?;
     }
-    write(b"]\n");
+    write(rt, b"]\n")
 }
 
 // So many single steps on a task of `size` bytes that begins at `end` of a request, behind the program.
-fn write_on(bytes: &[u8], end: usize, size: usize, run: Position)
+fn write_on(rt: &impl Print, bytes: &[u8], end: usize, size: usize, run: Position) -> io::Result<()>
     requires { 80 ≤ end }
 {
     if bytes.len() < end {
-        return;
+        return Ok(());
     }
     if bytes.len() - end < size {
-        return;
+        return Ok(());
     }
     let stop = end + size;
-    write_steps(two_at(bytes, 0), &bytes[end..stop], &bytes[80..end], run);
+    write_steps(
+        rt,
+        two_at(bytes, 0),
+        &bytes[end..stop],
+        &bytes[80..end],
+        run,
+    )
 }
 
 // What is to be added to the task of a given length: a start and a goal.
@@ -206,53 +235,65 @@ fn late_of(bytes: &[u8]) -> Late
 }
 
 // Adds a case to the task in a buffer, and writes the answer and the buffer.
-fn write_late(buffer: &mut [u8], late: Late, run: Position) -> Verdict {
+fn write_late(
+    rt: &impl Print,
+    buffer: &mut [u8],
+    late: Late,
+    run: Position,
+) -> io::Result<Verdict> {
     let verdict = add_case(buffer, late.given, late.start, late.goal, run);
-    write_verdict(verdict);
-    write_bytes(buffer);
-    verdict
+    write_verdict(rt, verdict)?;
+    write_bytes(rt, buffer)?;
+    Ok(verdict)
 }
 
 // Adds a case under the run of a request, and goes on with the run.
-fn write_late_request(bytes: &mut [u8]) {
+fn write_late_request(rt: &impl Print, bytes: &mut [u8]) -> io::Result<()> {
     if bytes.len() < 80 {
-        return;
+        return Ok(());
     }
     let end = 80 + two_at(bytes, 78) as usize;
     if bytes.len() < end {
-        return;
+        return Ok(());
     }
     let late = late_of(bytes);
     let run = position_of(&bytes[34..]);
-    let verdict = write_late(&mut bytes[end..], late, run);
+    let verdict = write_late(rt, &mut bytes[end..], late, run)?;
     let Verdict::Accepted { value: size } = verdict else {
-        return;
+        return Ok(());
     };
-    write_on(bytes, end, size, run);
+    write_on(rt, bytes, end, size, run)
 }
 
 // Writes the step that a plan has at an offset: its line and its instruction's three bytes.
-fn write_planned(plan: &[u8], at: usize)
+fn write_planned(rt: &impl Print, plan: &[u8], at: usize) -> io::Result<()>
     requires { at ≤ 900 }
 {
-    write_number(b"", byte_at(plan, at + 4) as u64);
-    write_number(b",", byte_at(plan, at + 5) as u64);
-    write_number(b" ", byte_at(plan, at + 6) as u64);
-    write_number(b" ", byte_at(plan, at + 7) as u64);
-    write_number(b" ", byte_at(plan, at + 8) as u64);
-    write(b": ");
+    write_number(rt, "", byte_at(plan, at + 4) as u64)?;
+    write_number(rt, ",", byte_at(plan, at + 5) as u64)?;
+    write_number(rt, " ", byte_at(plan, at + 6) as u64)?;
+    write_number(rt, " ", byte_at(plan, at + 7) as u64)?;
+    write_number(rt, " ", byte_at(plan, at + 8) as u64)?;
+    write(rt, b": ")
 }
 
 // Makes as many single steps as a plan has, each beside the plan's own, and gives the position after them.
-fn write_run(task: &[u8], program: &[u8], plan: &[u8], steps: usize, first: Position) -> Position
+fn write_run(
+    rt: &impl Print,
+    task: &[u8],
+    program: &[u8],
+    plan: &[u8],
+    steps: usize,
+    first: Position,
+) -> io::Result<Position>
     requires { steps ≤ 100 }
 {
     let mut position = first;
     for k in 0..steps {
-        write_planned(plan, 9 * k);
-        position = write_step(task, program, position);
+        write_planned(rt, plan, 9 * k)?;
+        position = write_step(rt, task, program, position)?;
     }
-    position
+    Ok(position)
 }
 
 // The first case's start, given where its record is.
@@ -271,91 +312,102 @@ fn first_position(task: &[u8], at: usize) -> Position
 }
 
 // The run beside a plan of so many steps, to the finish and one call beyond.
-fn write_to_the_finish(task: &[u8], program: &[u8], plan: &[u8], steps: usize, index: Index)
+fn write_to_the_finish(
+    rt: &impl Print,
+    task: &[u8],
+    program: &[u8],
+    plan: &[u8],
+    steps: usize,
+    index: Index,
+) -> io::Result<()>
     requires { steps ≤ 100 }
 {
     let at = index.first;
     if task.len() < 28 {
-        return;
+        return Ok(());
     }
     // The first case's record is there in a task that passes.
     if task.len() - 28 < at {
-        return;
+        return Ok(());
     }
-    let last = write_run(task, program, plan, steps, first_position(task, at));
+    let last = write_run(rt, task, program, plan, steps, first_position(task, at))?;
     if last.case == index.cases {
-        write(b"finished: ");
+        write(rt, b"finished: ")?;
     } else {
-        write(b"not finished: ");
+        write(rt, b"not finished: ")?;
     }
-    write_step(task, program, last);
+    write_step(rt, task, program, last)?;
+    Ok(())
 }
 
 // The run of a program beside the plan that the writer gives.
-fn write_beside(task: &[u8], program: &[u8]) {
+fn write_beside(rt: &impl Print, task: &[u8], program: &[u8]) -> io::Result<()> {
     let mut plan = [0u8; PLAN];
     let verdict = write_plan(task, program, &mut plan);
-    write(b"writer ");
-    write_verdict(verdict);
-    write(b"\n");
+    write(rt, b"writer ")?;
+    write_verdict(rt, verdict)?;
+    write(rt, b"\n")?;
     let Verdict::Accepted { value: steps } = verdict else {
-        return;
+        return Ok(());
     };
     if STEPS < steps {
-        return;
+        return Ok(());
     }
     let reading = read_task(task);
     let read = reading.layout;
-    write_to_the_finish(task, program, &plan, steps, read.index);
+    write_to_the_finish(rt, task, program, &plan, steps, read.index)
 }
 
-fn write_run_request(bytes: &[u8]) {
+fn write_run_request(rt: &impl Print, bytes: &[u8]) -> io::Result<()> {
     if bytes.len() < 2 {
-        return;
+        return Ok(());
     }
     let end = 2 + two_at(bytes, 0) as usize;
     if bytes.len() < end {
-        return;
+        return Ok(());
     }
-    write_beside(&bytes[end..], &bytes[2..end]);
+    write_beside(rt, &bytes[end..], &bytes[2..end])
 }
 
 // Reads a record's body and answers it.
-fn answer_body(kind: u16, body: &mut [u8]) {
-    io::read_full(STDIN_FILENO, body);
+fn answer_body(
+    rt: &impl Print,
+    input: &mut impl Read,
+    kind: u16,
+    body: &mut [u8],
+) -> io::Result<()> {
+    let _ = input.read_exact(body);
     match kind {
-        0 => write(body),
-        65535 => write_run_request(body),
-        65534 => write_calls_request(body),
-        65533 => write_late_request(body),
-        _ => write_request(kind, b"", body),
+        0 => write(rt, body),
+        65535 => write_run_request(rt, body),
+        65534 => write_calls_request(rt, body),
+        65533 => write_late_request(rt, body),
+        _ => write_request(rt, kind, b"", body),
     }
 }
 
 // Reads one record and answers it; false at the end of the input.
-fn answer_one(space: &mut [u8]) -> bool {
+fn answer_one(rt: &impl Print, input: &mut impl Read, space: &mut [u8]) -> io::Result<bool> {
     let mut head = [0u8; 4];
-    if io::read_full(STDIN_FILENO, &mut head) < 4 {
-        return false;
+    if input.read_exact(&mut head).is_err() {
+        return Ok(false);
     }
     let size = two_at(&head, 0) as usize;
     let kind = two_at(&head, 2);
     if space.len() < size {
-        return false;
+        return Ok(false);
     }
-    answer_body(kind, &mut space[..size]);
-    true
+    answer_body(rt, input, kind, &mut space[..size])?;
+    Ok(true)
 }
 
-fn main() {
-    let mut buffer = io::large_buffer();
-    let space: &mut [u8] = &mut buffer;
-    let mut left: usize = 4096;
-    while 0 < left {
-        if answer_one(space) {
-            left -= 1;
-        } else {
-            return;
+fn main(rt: HostRuntime) -> io::Result<()> {
+    let mut input = rt.reader();
+    let mut space = [0u8; 65536];
+    for _ in 0..4096 {
+        if !answer_one(&rt, &mut input, &mut space)? {
+            return Ok(());
         }
     }
+    Ok(())
 }
