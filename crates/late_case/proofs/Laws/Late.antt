@@ -1,13 +1,14 @@
 -- The call's answer, question by question; and the buffer: what is put before the closing record makes the file of the same task with the case added last.
 -- And what the verdict can be.
 -- Assumes nothing.
-use Prim.Native.Nat.{ℕ, zero, suc, ◌+◌, ◌-◌, ◌≤◌, ◌<◌}
+use Prim.Native.Nat.{ℕ, zero, suc, ◌+◌, ◌-◌, ◌≤◌, ◌<◌, min}
 use mathlib.Core.Path.{◌≡◌, refl, sym, ap, ◌∙◌}
 use mathlib.Core.Bool.{Bool, true, false}
 use mathlib.Core.List.{List, [], ◌∷◌, ◌++◌}
 use mathlib.Core.Logic.{◌⊎◌, inl, inr}
 use native.Mathlib.Decide.{dec_lt}
 use native.Mathlib.Omega.{arith}
+use Rattle.std.proofs.Common.{length-take}
 use lib.ListN.{length, take, drop, length-append, get_or-eq_default}
 use lib.Seq.{sets, sets-eq, length-take-le, take_all, take-length, take-take, take-append_seam, get_or-take}
 use lib.Dec.{leb, ltb}
@@ -40,27 +41,22 @@ pub record Capped (buffer : List ℕ) (given size : ℕ) : Type 0 where
   pub count : length (task_in buffer given) ≡ size
   pub most : size ≤ length buffer
 
-module _ (buffer : List ℕ) (given size : ℕ) where
-  pub part-given : given < length buffer → size ≡ given → Capped buffer given size
-  part-given h e =
-      record {
-        part = ap (λ (n : ℕ). take n buffer) e;
-        count = length-take-le given buffer (omega (arith, h)) ∙ sym e;
-        most = omega (arith, h, e);
-      }
-
-  pub all-given : length buffer ≤ given → size ≡ length buffer → Capped buffer given size
-  all-given h e =
-      let all = take_all given buffer h in
-      record { part = ap (λ (n : ℕ). take n buffer) e ∙ take-length buffer ∙ sym all; count = ap length all ∙ sym e; most = omega (arith, e) }
+-- the smaller of the two lengths
+pub smaller : (buffer : List ℕ) (given size : ℕ) → size ≡ min given (length buffer) → Capped buffer given size
+smaller buffer given size e =
+    elim (dec_lt given (length buffer)) [
+      | yes h ↦
+          let n : size ≡ given = omega arith in
+          record { part = ap (λ (n : ℕ). take n buffer) n; count = length-take-le given buffer (omega arith) ∙ sym n; most = omega arith }
+      | no m ↦
+          let n : size ≡ length buffer = omega arith in
+          let all = take_all given buffer (omega arith) in
+          record { part = ap (λ (n : ℕ). take n buffer) n ∙ take-length buffer ∙ sym all; count = ap length all ∙ sym n; most = omega arith }
+    ]
 
 -- the length that the task has
 pub own-capped : (buffer : List ℕ) (given : ℕ) → Capped buffer given (length (task_in buffer given))
-own-capped buffer given =
-    elim (dec_lt given (length buffer)) [
-      | yes h ↦ part-given buffer given _ h (length-take-le given buffer (omega (arith, h)))
-      | no n ↦ all-given buffer given _ (omega (arith, n)) (ap length (take_all given buffer (omega (arith, n))))
-    ]
+own-capped buffer given = smaller buffer given _ (length-take given buffer)
 
 -- the first part of a list of bytes
 take-most : (n : ℕ) (l : List ℕ) → length (take n l) ≤ n

@@ -12,22 +12,18 @@ use Rattle.task.specs.declared.index.Case.{Case}
 use Rattle.task_file.specs.Bytes.{pair_bytes, case_record}
 
 -- of a number's bytes, those that are left from the k-th on
-module _ (bytes : List ℕ) (at width rest : ℕ) where
-  pub put-none : sets bytes (at + 0) (number_bytes (width - 0) rest) ≡ sets bytes at (number_bytes width rest)
-  put-none = let e : at + 0 ≡ at = omega arith in let f : width - 0 ≡ width = omega arith in rw (e, f) refl
+module _ (bytes : List ℕ) (at width rest k : ℕ) where
+  pub put_next : k < width
+      → sets (set bytes (at + k) (rest % 256)) (at + (k + 1)) (number_bytes (width - (k + 1)) (rest / 256)) ≡ sets bytes (at + k) (number_bytes (width - k) rest)
+  unfolding number_bytes
+  put_next h =
+      let e : width - k ≡ suc (width - (k + 1)) = omega (arith, h) in
+      let f : at + (k + 1) ≡ suc (at + k) = omega arith in
+      rw (e, f) refl
 
-  module _ (k : ℕ) where
-    pub put_next : k < width
-        → sets (set bytes (at + k) (rest % 256)) (at + (k + 1)) (number_bytes (width - (k + 1)) (rest / 256)) ≡ sets bytes (at + k) (number_bytes (width - k) rest)
-    unfolding number_bytes
-    put_next h =
-        let e : width - k ≡ suc (width - (k + 1)) = omega (arith, h) in
-        let f : at + (k + 1) ≡ suc (at + k) = omega arith in
-        rw (e, f) refl
-
-    pub put_all : width ≤ k → bytes ≡ sets bytes (at + k) (number_bytes (width - k) rest)
-    unfolding number_bytes
-    put_all h = let e : width - k ≡ 0 = omega (arith, h) in rw e refl
+  pub put_all : width ≤ k → bytes ≡ sets bytes (at + k) (number_bytes (width - k) rest)
+  unfolding number_bytes
+  put_all h = let e : width - k ≡ 0 = omega (arith, h) in rw e refl
 
 -- one part behind another
 sets-join : (xs ys l : List ℕ) (at next : ℕ) → next ≡ at + length xs → sets (sets l at xs) next ys ≡ sets l at (xs ++ ys)

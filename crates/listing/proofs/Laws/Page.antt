@@ -5,7 +5,7 @@ use Prim.Native.Nat.{ℕ, suc, ◌+◌, ◌≤◌, ◌<◌, min}
 use mathlib.Core.Path.{◌≡◌, refl, ap, ◌∙◌}
 use mathlib.Core.List.{List, [], ◌∷◌, ◌++◌, append_assoc}
 use lib.ListN.{length, take, drop, get_or, set, length-append}
-use lib.Seq.{set-append_seam, take-nil, take-suc, take_all}
+use lib.Seq.{set-append_seam, take-nil, take-suc}
 use borrow.Author.Tests.{lt-ltb, le-ltb}
 use native.Mathlib.Numerals.{add-one}
 use native.Mathlib.Omega.{arith}
@@ -71,12 +71,9 @@ put_all buffer text =
     fills [] buffer text ∙ rw e
 
 -- a word, byte by byte
-module _ (p q : Page) (word : List ℕ) (k : ℕ) (sofar : q ≡ puts p (take k word)) where
-  pub put_next : (r : Page) → k < length word → r ≡ puts q (get_or word k 0 ∷ []) → r ≡ puts p (take (k + 1) word)
-  put_next r h next = rw (add-one, take-suc word k 0) (put_then p q r _ _ sofar next)
-
-  pub put_last : length word ≤ k → q ≡ puts p word
-  put_last h = sofar ∙ rw (take_all k word h)
+pub put_next : (p q : Page) (word : List ℕ) (k : ℕ) → q ≡ puts p (take k word)
+    → (r : Page) → k < length word → r ≡ puts q (get_or word k 0 ∷ []) → r ≡ puts p (take (k + 1) word)
+put_next p q word k sofar r h next = rw (add-one, take-suc word k 0) (put_then p q r _ _ sofar next)
 
 -- texts in order, one by one
 module _ (p q : Page) (text : ℕ → List ℕ) (k : ℕ) (sofar : q ≡ puts p (in_order text k)) where

@@ -1,6 +1,5 @@
 -- `late_case::put::put_case` meets its contract: the parts of the two records are put one behind the other.
 -- Assumes nothing.
-use borrow.Author.Rules.{rules}
 use Rattle.late_case.proofs.Laws.Put.{records-put}
 use Rattle.late_case.proofs.put.put_case.Goals as goal
 

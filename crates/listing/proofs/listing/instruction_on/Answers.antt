@@ -1,7 +1,6 @@
 -- `listing::listing::instruction_on` meets its contract: the line's three bytes are decoded.
 -- Assumes nothing.
 use mathlib.Core.Path.{ap, ◌∙◌}
-use borrow.Author.Rules.{rules}
 use Rattle.task.specs.Instruction.{decode}
 use Rattle.task.specs.Program.{instruction_on}
 use Rattle.listing.proofs.listing.instruction_on.Goals as goal

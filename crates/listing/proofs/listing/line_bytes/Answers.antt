@@ -3,7 +3,6 @@
 use Prim.Native.Nat.{◌+◌}
 use native.Mathlib.Nat.{mul-le-mul}
 use native.Mathlib.Omega.{arith}
-use borrow.Author.Rules.{rules}
 use Rattle.task.specs.Instruction.{triple_at}
 use Rattle.task.specs.Program.{line_offset}
 use Rattle.listing.proofs.listing.line_bytes.Goals as goal

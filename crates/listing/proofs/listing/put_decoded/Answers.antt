@@ -1,6 +1,5 @@
 -- `listing::listing::put_decoded` meets its contract: an instruction is named, and where there is none nothing is put.
 -- Assumes nothing.
-use borrow.Author.Rules.{rules}
 use Rattle.listing.specs.Listing.{decoded_text}
 use Rattle.listing.proofs.Laws.Page.{put-none}
 use Rattle.listing.proofs.listing.put_decoded.Goals as goal

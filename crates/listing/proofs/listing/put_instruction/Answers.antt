@@ -1,6 +1,5 @@
 -- `listing::listing::put_instruction` meets its contract, variant by variant: the name, and then the operands.
 -- Assumes nothing.
-use borrow.Author.Rules.{rules}
 use Rattle.listing.specs.Listing.{instruction_text}
 use Rattle.listing.proofs.Laws.Page.{put_then}
 use Rattle.listing.proofs.listing.put_instruction.Goals as goal

@@ -1,6 +1,5 @@
 -- `listing::listing::put_line` meets its contract: the number, the instruction on the line, and the line's end.
 -- Assumes nothing.
-use borrow.Author.Rules.{rules}
 use Rattle.listing.specs.Listing.{line_text}
 use Rattle.listing.proofs.Laws.Page.{put_then}
 use Rattle.listing.proofs.listing.put_line.Goals as goal

@@ -1,6 +1,5 @@
 -- `listing::listing::put_report` meets its contract: a refusal is its two numbers, an acceptance the number of steps and the listing.
 -- Assumes nothing.
-use borrow.Author.Rules.{rules}
 use Rattle.listing.specs.Listing.{report_text}
 use Rattle.listing.proofs.Laws.Page.{put_then}
 use Rattle.listing.proofs.listing.put_report.Goals as goal

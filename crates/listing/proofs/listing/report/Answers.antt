@@ -1,7 +1,6 @@
 -- `listing::listing::report` meets its contract: the report is put on an empty page, so it is at the start as far as it fits.
 -- Assumes nothing.
 use mathlib.Core.Path.{ap, ◌∙◌}
-use borrow.Author.Rules.{rules}
 use Rattle.listing.specs.Page.{Page}
 use Rattle.listing.proofs.Laws.Page.{put_all}
 use Rattle.listing.proofs.listing.report.Goals as goal

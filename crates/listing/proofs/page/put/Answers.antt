@@ -1,7 +1,6 @@
 -- `listing::page::put` meets its contract: there is room for the byte, or it is left out.
 -- Assumes nothing.
 use native.Mathlib.Omega.{arith}
-use borrow.Author.Rules.{rules}
 use Rattle.listing.proofs.Laws.Page.{put_full, put-room}
 use Rattle.listing.proofs.page.put.Goals as goal
 

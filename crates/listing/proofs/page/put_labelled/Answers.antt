@@ -1,6 +1,5 @@
 -- `listing::page::put_labelled` meets its contract: a word, and then a number.
 -- Assumes nothing.
-use borrow.Author.Rules.{rules}
 use Rattle.listing.proofs.Laws.Page.{put_then}
 use Rattle.listing.proofs.page.put_labelled.Goals as goal
 
