@@ -31,6 +31,7 @@ fn too_long() -> Verdict
 }
 
 // Question 30, and then the checker's.
+#[tactic(auto, unfolding(crate::specs::Files::check_files))]
 fn check_bytes(task: &[u8], plan: &[u8], program: &mut [u8]) -> Verdict
     ensures { record { verdict = result; buffer = program.new }
         ≡ check_files task.now plan.now program.old }
