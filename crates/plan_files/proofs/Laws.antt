@@ -1,3 +1,2 @@
--- The laws of the definitions in specs/: question 30 and what is printed (Files), and how long that is (Printed).
-pub mod Files
+-- The law of the definitions in specs/: how long what is printed is (Printed).
 pub mod Printed

@@ -46,6 +46,7 @@ fn check_bytes(task: &[u8], plan: &[u8], program: &mut [u8]) -> Verdict
 }
 
 // Writes what is printed on a task's and a plan's bytes at the start of a text, and answers how many bytes it wrote: all, where the text has 4,096.
+#[tactic(auto, using(crate::proofs::Laws::Printed::all_printed), unfolding(crate::specs::Files::printed))]
 pub fn print_check(task: &[u8], plan: &[u8], text: &mut [u8]) -> usize
     ensures { (result ≡ min (length (printed task.now plan.now)) (length text.old))
         × (text.new ≡ filled (printed task.now plan.now) text.old)

@@ -75,5 +75,5 @@ pub printed-fits : PrintedFits
 printed-fits task plan = omega (arith, printed-most task plan)
 
 -- as many bytes as fit 4,096 or more are all
-pub all-printed : (task plan : List ℕ) (size room : ℕ) → size ≡ min (length (printed task plan)) room → 4096 ≤ room → size ≡ length (printed task plan)
-all-printed task plan size room e h = omega (arith, printed-fits task plan)
+pub all_printed : (task plan : List ℕ) (size room : ℕ) → size ≡ min (length (printed task plan)) room → 4096 ≤ room → size ≡ length (printed task plan)
+all_printed task plan size room e h = omega (arith, printed-fits task plan)
