@@ -11,7 +11,6 @@ use lib.ListN.{length, drop, length-append}
 use lib.Dec.{leb}
 use borrow.Author.Tests.{le-leb, leb-true}
 use Rattle.records.specs.Loop.{Turn, stop, go, after}
-use Rattle.records.specs.Record.{closing}
 use Rattle.records.proofs.Laws.Bytes.{closing-read}
 use Rattle.records.proofs.Laws.Loop.{Keeps, loop-keeps}
 use Rattle.task.specs.Bounds.{program_size}

@@ -15,7 +15,6 @@ use Rattle.task.specs.declared.instruction.Instruction.TheVariants.{Empty}
 use Rattle.task.specs.declared.instruction.Triple.{Triple}
 use Rattle.task.proofs.Laws.Instruction.{op-empty}
 use Rattle.step.specs.declared.position.Frame.{Frame}
-use Rattle.checker.specs.Check.{written}
 use Rattle.checker.specs.Plan.{PlanStep, instruction_of}
 use Rattle.checker.specs.Write.{step_on}
 use Rattle.checker.specs.declared.plan.Step.{Step}

@@ -12,7 +12,7 @@ use native.Mathlib.Omega.{arith}
 use lib.ListN.{length, drop}
 use Rattle.records.specs.Loop.{go}
 use Rattle.task.specs.Bounds.{program_size}
-use Rattle.task.specs.Instruction.{allowed, decode_for, encode}
+use Rattle.task.specs.Instruction.{decode_for, encode}
 use Rattle.task.specs.Program.{line_offset}
 use Rattle.task.specs.declared.bounds.Bounds.{Bounds}
 use Rattle.task.specs.declared.index.Layout.{Layout}
