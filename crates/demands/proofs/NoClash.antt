@@ -48,7 +48,7 @@ module _ (bytes : List ℕ) where
         program = program-not;
         checker = λ plan buffer. check-has Not20 bytes buffer (task-not bytes) covers plan;
         writer = λ program buffer. write-has Not20 bytes buffer (task-not bytes) covers program (λ p. program-not _ _ program);
-        single_step = single-not;
+        single-step = single-not;
         many-steps = λ program. many-has Not20 bytes program (λ made. omega arith) (single-not program) (task-not bytes) (λ p. program-not _ _ program) (omega arith);
         late-case = λ given c run. add-has Not20 bytes given c run own-not (task-not (task_in bytes given)) (λ value e. omega arith);
       }

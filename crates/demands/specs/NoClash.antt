@@ -36,6 +36,6 @@ pub record NoClash (bytes : List ℕ) : Type 0 where
   pub program : (i : Index) (presets program : List ℕ) → Not20 (program_verdict i presets program)
   pub checker : (plan buffer : List ℕ) → Not20 (check bytes plan buffer).verdict
   pub writer : (program buffer : List ℕ) → Not20 (write bytes program buffer).verdict
-  pub single_step : (program : List ℕ) (run : Position) → Not20 (single_step bytes program run).verdict
+  pub single-step : (program : List ℕ) (run : Position) → Not20 (single_step bytes program run).verdict
   pub many-steps : (program : List ℕ) (count : ℕ) (run : Position) → Not20 (many_steps bytes program count run).answer.verdict
   pub late-case : (given : ℕ) (c : Case) (run : Position) → Not20 (add_verdict bytes given c run)
