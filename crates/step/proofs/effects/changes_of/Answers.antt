@@ -35,8 +35,8 @@ loop-e-preserved-then-holds c =
     let effect = c.effect_at-effect.ensures in
     let same = c.effect_at.ensures ∙ sym effect in
     let fires = sym c.if-holds.true ∙ c.holds.ensures ∙ ap (λ (x : Effect). holds a.state x.condition) same in (
-      walk-on _ _ _ _ _ _ _ walked.0 less _ effect true fires (or_lt 64 _ _ walked.0.small c.struct_known-1.given.1.0.fits),
-      walk-on _ _ _ _ _ _ _ walked.1 less _ effect true fires (or_lt 64 _ _ walked.1.small c.struct_known-then-holds-1.given.1.1.0.fits),
+      walk-on _ _ _ _ _ _ _ walked.0 less _ effect true fires (or_lt 64 _ _ walked.0.small (omega arith)),
+      walk-on _ _ _ _ _ _ _ walked.1 less _ effect true fires (or_lt 64 _ _ walked.1.small (omega arith)),
     )
 
 pub loop-e-smaller : goal.loop-e-smaller

@@ -27,4 +27,4 @@ returns c =
     let a = c.args in
     act-moves a.task.now a.at a.facts c.action_at-action.result c.action_at-action.ensures c.holds.result c.holds.ensures
     c.if-not-holds.false changes.result changes.ensures _
-    (changed-word a.facts changes.result c.ranges.facts.fits c.struct_known-1.given.0.fits)
+    (changed-word a.facts changes.result c.ranges.facts.fits (omega arith))
