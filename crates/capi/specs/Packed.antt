@@ -3,10 +3,8 @@
 -- The answer to a number of steps has three parts: its number in the upper 16 bits, the steps made in the next 16, and its place, below 2 ^ 32 by law
 -- `steps-small`, in the lower half.
 use Rattle.std.specs.Prelude.{ℕ, ◌+◌, ◌*◌, ◌^◌}
-use Rattle.task.specs.Verdict.{number_of, value_of}
-use Rattle.task.specs.declared.verdict.Verdict.{Verdict}
-use Rattle.task.specs.declared.verdict.Verdict.TheVariants.{Accepted, Refused}
-use Rattle.steps.specs.declared.many.StepsAnswer.{StepsAnswer}
+use Rattle.task.specs.Verdict.{number_of, value_of, Verdict, Accepted, Refused}
+use Rattle.steps.specs.Many.{StepsAnswer}
 
 unfoldable pub packed : Verdict → ℕ
 packed v = number_of v * 2 ^ 32 + value_of v

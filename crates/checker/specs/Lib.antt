@@ -1,5 +1,6 @@
 pub mod Answer
 pub mod Check
+pub mod Kind
 pub mod Outcome
 pub mod Plan
 pub mod Questions

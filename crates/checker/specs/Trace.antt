@@ -1,18 +1,15 @@
--- The writer's trace: one byte for each step of a run, the top frame's procedure and line; and what a trace leads to, the lines preset or run and
--- the records of its first steps. Only contracts of private functions cite it.
-use Rattle.std.specs.Prelude.{ℕ, zero, suc, ◌+◌, ◌/◌, ◌%◌, ◌≤◌, ◌<◌, ◌≡◌, true, List, [], ◌++◌, length, take, drop, get_or}
+-- The writer's trace, the top frame at each step of a run; and what a trace leads to, the lines preset or run and the records of its first steps.
+-- Only contracts of private functions cite it.
+use Rattle.std.specs.Prelude.{ℕ, zero, suc, ◌+◌, ◌≤◌, ◌<◌, ◌≡◌, true, List, [], ◌++◌, length, take, drop, get_or}
 use Rattle.task.specs.Instruction.{spelled}
 use Rattle.task.specs.Program.{line_offset, line_bytes, spelled_on, is_instruction}
 use Rattle.task.specs.declared.bounds.Bounds.{Bounds}
+use Rattle.step.specs.Position.{origin}
 use Rattle.step.specs.declared.position.Frame.{Frame}
 use Rattle.checker.specs.Check.{written}
 use Rattle.checker.specs.Plan.{record_of}
 use Rattle.checker.specs.Write.{step_on}
 use Rattle.checker.specs.declared.plan.Step.{Step}
-
--- the frame of a byte: its procedure is below 8, and its line below 32
-unfoldable pub frame_of : ℕ → Frame
-frame_of n = record { procedure = record { 0 = n / 32 }; line = record { 0 = n % 32 } }
 
 -- bytes with the first so many of others at an offset
 unfoldable pub with_bytes : List ℕ → ℕ → ℕ → List ℕ → List ℕ
@@ -35,16 +32,16 @@ module _ (b : Bounds) (program : List ℕ) where
   record_on lines f = record_of (record { frame = f; step = step_at lines f })
 
   -- whether every line of a trace's first steps spells an instruction
-  unfoldable pub Spelled : List ℕ → ℕ → Type 0
-  Spelled trace steps = (k : ℕ) → k < steps → SpelledAt (frame_of (get_or trace k 0))
+  unfoldable pub Spelled : List Frame → ℕ → Type 0
+  Spelled trace steps = (k : ℕ) → k < steps → SpelledAt (get_or trace k origin)
 
-  module _ (presets trace : List ℕ) where
+  module _ (presets : List ℕ) (trace : List Frame) where
     -- the lines preset or run after the first k steps
     unfoldable pub lines_after : ℕ → List ℕ
     lines_after zero = presets
-    lines_after (suc k) = lines_with (lines_after k) (frame_of (get_or trace k 0))
+    lines_after (suc k) = lines_with (lines_after k) (get_or trace k origin)
 
     -- their records
     unfoldable pub records_after : ℕ → List ℕ
     records_after zero = []
-    records_after (suc k) = records_after k ++ record_on (lines_after k) (frame_of (get_or trace k 0))
+    records_after (suc k) = records_after k ++ record_on (lines_after k) (get_or trace k origin)

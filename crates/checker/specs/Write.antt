@@ -12,12 +12,12 @@ use Rattle.task.specs.declared.index.Index.{Index}
 use Rattle.task.specs.declared.index.Layout.{Layout}
 use Rattle.task.specs.declared.instruction.Instruction.{Instruction}
 use Rattle.task.specs.declared.instruction.Triple.{Triple}
-use Rattle.task.specs.declared.verdict.Verdict.TheVariants.{Refused}
+use Rattle.task.specs.Verdict.{Refused}
 use Rattle.step.specs.Perform.{run_step}
 use Rattle.step.specs.Position.{starting, top}
 use Rattle.step.specs.Questions.{STEPS}
 use Rattle.step.specs.declared.position.Position.{Position}
-use Rattle.checker.specs.Answer.{Answer, Result, refused, accepted, passing, answer}
+use Rattle.checker.specs.Answer.{Answer, Outcome, refused, accepted, passing, answer}
 use Rattle.checker.specs.Check.{written}
 use Rattle.checker.specs.Plan.{record_of, plan_size}
 use Rattle.checker.specs.Questions.{PLAN-BUFFER}
@@ -35,7 +35,7 @@ unfoldable pub step_on : Triple → Instruction → Step
 step_on held w = cond (eqb held.op 0) (Write w) (Repeat w)
 
 -- after questions 14, 28 and 19 to 22 of the top frame's line: refused with the steps done, or one step and its record more
-unfoldable pub on_step : Index → List ℕ → Writing → Turn Position ℕ → Turn Writing Result
+unfoldable pub on_step : Index → List ℕ → Writing → Turn Position ℕ → Turn Writing Outcome
 on_step i program s (stop question) = stop (refused question s.position.steps)
 on_step i program s (go position) =
     let f = top s.position in
@@ -48,7 +48,7 @@ on_step i program s (go position) =
     })
 
 -- one turn of the writer: a step of the program, or after the last case the closing record
-unfoldable pub write_turn : List ℕ → Index → List ℕ → List ℕ → Writing → Turn Writing Result
+unfoldable pub write_turn : List ℕ → Index → List ℕ → List ℕ → Writing → Turn Writing Outcome
 write_turn bytes i offsets program s =
     cond (ltb s.position.case i.cases)
     (on_step i program s (run_step bytes i offsets program s.position))
@@ -63,18 +63,18 @@ unfoldable pub start : List ℕ → Index → List ℕ → Writing
 start bytes i presets = record { position = starting 0 (case_at bytes i.first 0).start; lines = presets; plan = [] }
 
 -- the whole run. Question 14 stops it after S steps, so the loop never runs out of turns
-unfoldable pub run : List ℕ → Layout → List ℕ → Result
+unfoldable pub run : List ℕ → Layout → List ℕ → Outcome
 run bytes t program =
     loop (write_turn bytes t.index t.offsets program) (steps_left t.index) (refused STEPS 0) (start bytes t.index t.presets)
 
 -- what the program comes to: the task's verdict, the program's own, and its run
-unfoldable pub program_result : List ℕ → List ℕ → Result
+unfoldable pub program_result : List ℕ → List ℕ → Outcome
 program_result bytes program =
     let t = (read_task bytes).layout in
     passing (read_task bytes).verdict (passing (program_verdict t.index t.presets program) (run bytes t program))
 
 -- the answer to it: question 29 comes after the finish, and its place is the number of bytes needed
-unfoldable pub on_finish : List ℕ → Result → Answer
+unfoldable pub on_finish : List ℕ → Outcome → Answer
 on_finish buffer (refused question place) = record { verdict = Refused question place; buffer = buffer }
 on_finish buffer (accepted steps plan) =
     let size = plan_size steps in

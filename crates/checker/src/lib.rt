@@ -3,7 +3,7 @@
 #![tactic(auto)]
 
 pub mod check;
+mod kind;
 pub mod plan;
-pub mod questions;
 mod trace;
 pub mod write;

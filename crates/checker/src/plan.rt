@@ -1,21 +1,24 @@
 // A plan's steps.
 ghost use Rattle.std.specs.Prelude.{◌≡◌};
+ghost use Rattle.checker.specs.Kind.{kind_number};
 ghost use Rattle.checker.specs.Plan.{instruction_of, step_of};
 
+use crate::kind::PlanKind;
 use task::instruction::Instruction;
 
 // A step writes an instruction on a line and runs it, or repeats the one that is there.
-#[derive(Clone, Copy)]
+#[derive(Clone, Copy, Debug, PartialEq, Eq)]
 pub enum Step {
     Write(Instruction),
     Repeat(Instruction),
 }
 
 // The step of a record of kind 16 or 17.
-pub(crate) fn step_of(kind: u16, w: Instruction) -> Step
-    ensures { result ≡ step_of kind w }
+#[tactic(auto, unfolding(crate::specs::Plan::step_of))]
+pub(crate) fn step_of(kind: PlanKind, w: Instruction) -> Step
+    ensures { result ≡ step_of (kind_number kind) w }
 {
-    if kind == 16 {
+    if kind == PlanKind::Write {
         Step::Write(w)
     } else {
         Step::Repeat(w)
@@ -23,11 +26,11 @@ pub(crate) fn step_of(kind: u16, w: Instruction) -> Step
 }
 
 // The instruction that a step runs.
+#[tactic(auto, unfolding(crate::specs::Plan::instruction_of))]
 pub(crate) fn instruction_of(step: Step) -> Instruction
     ensures { result ≡ instruction_of step }
 {
     match step {
-        Step::Write(w) => w,
-        Step::Repeat(w) => w,
+        Step::Write(w) | Step::Repeat(w) => w,
     }
 }

@@ -1,39 +1,43 @@
-// The writer's trace, one byte for each step of a run: its line's number plus 32 times that of its procedure. From it and the program come the
-// plan's records.
-ghost use Rattle.std.specs.Prelude.{◌≡◌, ◌++◌, ◌≤◌, length};
-ghost use Rattle.records.specs.Record.{closing};
+// The writer's trace, the top frame at each step of a run. From it and the program come the plan's records.
+ghost use Rattle.std.specs.Prelude.{◌≡◌, [], ◌∷◌, ◌++◌, ◌≤◌, length};
+ghost use Rattle.records.specs.Record.{record_bytes, closing};
+ghost use Rattle.task.specs.Verdict.{verdict};
 ghost use Rattle.checker.specs.Answer.{accepted};
-ghost use Rattle.checker.specs.Trace.{frame_of, SpelledAt, lines_with, record_on, Spelled, records_after};
+ghost use Rattle.checker.specs.Kind.{kind_number};
+ghost use Rattle.checker.specs.Trace.{SpelledAt, lines_with, record_on, Spelled, records_after};
 ghost use Rattle.checker.specs.Write.{on_finish};
 
 use crate::check::put;
-use crate::plan::{Step, step_of};
-use crate::questions::PLAN_BUFFER;
+use crate::kind::PlanKind;
+use step::position::Frame;
 use task::bounds::Bounds;
-use task::instruction::{Line, Proc, put_triple, spelled, triple_at};
+use task::instruction::{Triple, put_triple, triple_at};
 use task::program::line_offset;
-use task::verdict::Verdict;
+use task::questions::Question;
+use task::refusal::Refusal;
 
-// The record of a step, by its byte in the trace. Its line is added to `lines`.
-fn next_record(bounds: Bounds, program: &[u8], lines: &mut [u8; 768], number: u8) -> [u8; 9]
-    requires { SpelledAt bounds program.now (frame_of number) × (length program.now ≤ 768) × (length lines.old ≡ 768) }
-    ensures { (lines.new ≡ lines_with bounds program.now lines.old (frame_of number))
-        × (result ≡ record_on bounds program.now lines.old (frame_of number)) }
+// The record of a step at a frame, by the three bytes of its instruction.
+#[tactic(auto, unfolding(records::specs::Record::record_bytes, records::specs::Numbers::number_bytes))]
+fn step_record(kind: PlanKind, frame: Frame, w: Triple) -> [u8; 9]
+    ensures { result ≡ record_bytes (kind_number kind) (frame.procedure.0 ∷ frame.line.0 ∷ w.op ∷ w.p ∷ w.q ∷ []) }
 {
-    let procedure = number / 32;
-    let line = number % 32;
-    let offset = line_offset(bounds, Proc(procedure), Line(line));
+    let Frame { procedure, line } = frame;
+    [5, 0, kind as u8, 0, procedure.0, line.0, w.op, w.p, w.q]
+}
+
+// The record of the next step, by its frame: a line that `lines` does not hold is written, and added there; any other is repeated.
+fn next_record(bounds: Bounds, program: &[u8], lines: &mut [u8; 768], frame: Frame) -> [u8; 9]
+    requires { SpelledAt bounds program.now frame × (length program.now ≤ 768) }
+    ensures { (lines.new ≡ lines_with bounds program.now lines.old frame)
+        × (result ≡ record_on bounds program.now lines.old frame) }
+{
+    let offset = line_offset(bounds, frame.procedure, frame.line);
     let w = triple_at(program, offset);
-    // Kind 16 for a line that `lines` does not hold, else 17.
-    let kind = 17 - (lines[offset] == 0) as u16;
-    let step = step_of(kind, spelled(w));
-    match step {
-        Step::Write(_) => {
-            put_triple(lines, offset, w);
-            [5, 0, 16, 0, procedure, line, w.op, w.p, w.q]
-        }
-        Step::Repeat(_) => [5, 0, 17, 0, procedure, line, w.op, w.p, w.q],
+    if lines[offset] != 0 {
+        return step_record(PlanKind::Repeat, frame, w);
     }
+    put_triple(lines, offset, w);
+    step_record(PlanKind::Write, frame, w)
 }
 
 // What follows a run that ended all cases, given its trace: question 29, and the plan. The records of its steps and the closing one fill the buffer's
@@ -41,36 +45,28 @@ fn next_record(bounds: Bounds, program: &[u8], lines: &mut [u8; 768], number: u8
 pub(crate) fn write_records(
     bounds: Bounds,
     program: &[u8],
-    trace: &[u8; 4096],
-    steps: u16,
+    trace: &[Frame],
     presets: [u8; 768],
     buffer: &mut [u8],
-) -> Verdict
-    requires { (steps ≤ 4096)
+) -> Result<usize, Refusal>
+    requires { (length trace.now ≤ 4096)
         × (length program.now ≤ 768)
-        × (length presets ≡ 768)
-        × Spelled bounds program.now trace.now steps }
-    ensures { record { verdict = result; buffer = buffer.new }
+        × Spelled bounds program.now trace.now (length trace.now) }
+    ensures { record { verdict = verdict result; buffer = buffer.new }
         ≡ on_finish
         buffer.old
-        (accepted steps (records_after bounds program.now presets trace.now steps ++ closing)) }
+        (accepted (length trace.now) (records_after bounds program.now presets trace.now (length trace.now) ++ closing)) }
 {
-    let count = steps as usize;
+    let count = trace.len();
     let size = 9 * count + 4;
     if buffer.len() < size {
-        return Verdict::Refused {
-            question: PLAN_BUFFER,
-            place: size,
-        };
+        return Err(Question::PlanNoRoom.at(size));
     }
     let mut lines = presets;
-    let mut k = 0;
-    while k < count {
+    for k in 0..count {
         let record = next_record(bounds, program, &mut lines, trace[k]);
-        put(buffer, 9 * k, 9, &record);
-        k += 1;
+        put(buffer, 9 * k, &record);
     }
-    let closing = [0, 0, 5, 0];
-    put(buffer, 9 * count, 4, &closing);
-    Verdict::Accepted { value: count }
+    put(buffer, 9 * count, &[0, 0, PlanKind::Closing as u8, 0]);
+    Ok(count)
 }

@@ -7,10 +7,9 @@
 
 use checker::check::check_plan;
 use checker::write::write_plan;
-use records::numbers::{byte_at, two_at};
+use records::numbers::two_at;
 use std::io::{self, Read};
-use std::num::wrapping_add_u64;
-use task::verdict::Verdict;
+use task::refusal::Refusal;
 
 // The kind of a request to the writer.
 const WRITER: u16 = 2;
@@ -18,43 +17,31 @@ const WRITER: u16 = 2;
 // The longest buffer that is listed.
 const LISTED: usize = 1024;
 
-fn write(rt: &impl Print, text: &[u8]) -> io::Result<()> {
-    rt.write_all(text)
-}
-
-fn write_number(rt: &impl Print, label: &str, n: u64) -> io::Result<()> {
-    print!(rt; "{label}{n}")
-}
-
-fn write_verdict(rt: &impl Print, verdict: Verdict) -> io::Result<()> {
-    match verdict {
-        Verdict::Accepted { value } => write_number(rt, "0 ", value as u64),
-        Verdict::Refused { question, place } => {
-            write_number(rt, "", question as u64)?;
-            write_number(rt, " ", place as u64)
-        }
+// A yes has the number 0 and its value; a no has its question's number and its place.
+fn write_answer(rt: &impl Print, answer: Result<usize, Refusal>) -> io::Result<()> {
+    match answer {
+        Ok(value) => print!(rt; "0 {value}"),
+        Err(refusal) => print!(rt; "{refusal}"),
     }
 }
 
 fn write_bytes(rt: &impl Print, bytes: &[u8]) -> io::Result<()> {
-    write(rt, b" [")?;
-    for k in 0..bytes.len() {
-        print!(rt; "{:02x}", byte_at(bytes, k))?;
+    print!(rt; " [")?;
+    for byte in bytes {
+        print!(rt; "{byte:02x}")?;
     }
-    write(rt, b"]\n")
+    println!(rt; "]")
 }
 
 // The sum of the bytes, and the sum of the sums up to each of them.
 fn write_sums(rt: &impl Print, bytes: &[u8]) -> io::Result<()> {
     let mut sum: u64 = 0;
     let mut sums: u64 = 0;
-    for k in 0..bytes.len() {
-        sum = wrapping_add_u64(sum, byte_at(bytes, k) as u64);
-        sums = wrapping_add_u64(sums, sum);
+    for &byte in bytes {
+        sum = sum.wrapping_add(byte as u64);
+        sums = sums.wrapping_add(sum);
     }
-    write_number(rt, " sums ", sum)?;
-    write_number(rt, " ", sums)?;
-    write(rt, b"\n")
+    println!(rt; " sums {sum} {sums}")
 }
 
 fn write_buffer(rt: &impl Print, buffer: &[u8]) -> io::Result<()> {
@@ -65,8 +52,8 @@ fn write_buffer(rt: &impl Print, buffer: &[u8]) -> io::Result<()> {
     }
 }
 
-// The writer's verdict on a program, or the checker's on a plan.
-fn verdict_on(kind: u16, task: &[u8], file: &[u8], buffer: &mut [u8]) -> Verdict {
+// The writer's answer on a program, or the checker's on a plan.
+fn ask(kind: u16, task: &[u8], file: &[u8], buffer: &mut [u8]) -> Result<usize, Refusal> {
     if kind == WRITER {
         write_plan(task, file, buffer)
     } else {
@@ -74,47 +61,19 @@ fn verdict_on(kind: u16, task: &[u8], file: &[u8], buffer: &mut [u8]) -> Verdict
     }
 }
 
-fn write_answer(
-    rt: &impl Print,
-    kind: u16,
-    task: &[u8],
-    file: &[u8],
-    buffer: &mut [u8],
-) -> io::Result<()> {
-    write_verdict(rt, verdict_on(kind, task, file, buffer))?;
-    write_buffer(rt, buffer)
-}
-
 // A task of the given length and then a plan or a program.
-fn write_request(
-    rt: &impl Print,
-    kind: u16,
-    size: usize,
-    bytes: &[u8],
-    buffer: &mut [u8],
-) -> io::Result<()> {
-    if bytes.len() < size {
-        return Ok(());
-    }
-    write_answer(rt, kind, &bytes[..size], &bytes[size..], buffer)
-}
-
-fn answer_text(rt: &impl Print, input: &mut impl Read, text: &mut [u8]) -> io::Result<()> {
-    let _ = input.read_exact(text);
-    write(rt, text)
-}
-
 fn answer_files(
     rt: &impl Print,
-    input: &mut impl Read,
     kind: u16,
     size: usize,
-    files: &mut [u8],
+    files: &[u8],
     buffer: &mut [u8],
 ) -> io::Result<()> {
-    let _ = input.read_exact(buffer);
-    let _ = input.read_exact(files);
-    write_request(rt, kind, size, files, buffer)
+    if files.len() < size {
+        return Ok(());
+    }
+    write_answer(rt, ask(kind, &files[..size], &files[size..], buffer))?;
+    write_buffer(rt, buffer)
 }
 
 // Reads a request's body and answers it; false if it does not fit.
@@ -136,20 +95,14 @@ fn answer_request(
         return Ok(false);
     }
     let files = size - (4 + buffer);
-    if space.len() < files {
+    if space.len() < files || lent.len() < buffer {
         return Ok(false);
     }
-    if lent.len() < buffer {
-        return Ok(false);
-    }
-    answer_files(
-        rt,
-        input,
-        kind,
-        task,
-        &mut space[..files],
-        &mut lent[..buffer],
-    )?;
+    let files = &mut space[..files];
+    let buffer = &mut lent[..buffer];
+    let _ = input.read_exact(buffer);
+    let _ = input.read_exact(files);
+    answer_files(rt, kind, task, files, buffer)?;
     Ok(true)
 }
 
@@ -172,7 +125,9 @@ fn answer_one(
     if space.len() < size {
         return Ok(false);
     }
-    answer_text(rt, input, &mut space[..size])?;
+    let text = &mut space[..size];
+    let _ = input.read_exact(text);
+    rt.write_all(text)?;
     Ok(true)
 }
 

@@ -16,14 +16,13 @@ use Rattle.records.proofs.Laws.Loop.{Keeps, loop-keeps}
 use Rattle.task.specs.Bounds.{program_size}
 use Rattle.task.specs.Reading.{read_task}
 use Rattle.task.specs.declared.index.Layout.{Layout}
-use Rattle.task.specs.declared.verdict.Verdict.{Verdict}
-use Rattle.task.specs.declared.verdict.Verdict.TheVariants.{Accepted, Refused}
+use Rattle.task.specs.Verdict.{Verdict, Accepted, Refused}
 use Rattle.task.proofs.Laws.Passed.{Passed, passed}
 use Rattle.task.proofs.Laws.Verdict.{refused-accepted}
 use Rattle.step.specs.Position.{starting}
 use Rattle.step.proofs.Laws.Kept.{starting-possible}
 use Rattle.checker.specs.Check as check
-use Rattle.checker.specs.Answer.{Answer, Result, refused, accepted, passing, filled, answer}
+use Rattle.checker.specs.Answer.{Answer, Outcome, refused, accepted, passing, filled, answer}
 use Rattle.checker.specs.Check.{turn_of, left, begin, follow}
 use Rattle.checker.specs.Plan.{PlanStep, is_kind, length_fits, plan_of}
 use Rattle.checker.specs.Questions.{BUFFER, PLAN-RECORD}
@@ -70,10 +69,10 @@ module _ (bytes plan : List ℕ) (t : Layout) (passed : Passed bytes t) where
     bound : s.position.steps ≤ t.index.bounds.steps
 
   -- an answer that accepts has a solution
-  abbrev Sound : Result → Type 0
+  abbrev Sound : Outcome → Type 0
   Sound answer = (k : ℕ) (program : List ℕ) → answer ≡ accepted k program → Solved k program
 
-  come-keeps : (s : check.State) → Come s → (u : Turn check.State Result) → turn_of bytes t.index t.offsets plan s ≡ u → Keeps Come Sound u
+  come-keeps : (s : check.State) → Come s → (u : Turn check.State Outcome) → turn_of bytes t.index t.offsets plan s ≡ u → Keeps Come Sound u
   come-keeps s come (go u) e =
       let x = turn-action bytes t passed plan s come.now come.stands u e in
       record {
@@ -130,7 +129,7 @@ module _ (bytes plan : List ℕ) (t : Layout) (passed : Passed bytes t) where
         program = s.program;
         comes =
             from-turn bytes t.index t.offsets plan s
-            ∙ ap (λ (u : Turn check.State Result). after u (from bytes t.index t.offsets plan)) ends
+            ∙ ap (λ (u : Turn check.State Outcome). after u (from bytes t.index t.offsets plan)) ends
             ∙ ap (λ (k : ℕ). accepted k s.program) (omega arith);
         held = record { holds = stands.holds; room = stands.room };
       }
@@ -141,7 +140,7 @@ module _ (bytes plan : List ℕ) (t : Layout) (passed : Passed bytes t) where
         program = y.program;
         comes =
             from-turn bytes t.index t.offsets plan s
-            ∙ ap (λ (u : Turn check.State Result). after u (from bytes t.index t.offsets plan)) x.turns
+            ∙ ap (λ (u : Turn check.State Outcome). after u (from bytes t.index t.offsets plan)) x.turns
             ∙ y.comes
             ∙ ap (λ (k : ℕ). accepted k y.program) (omega (arith, x.counts));
         held = y.held;
@@ -171,12 +170,9 @@ module _ (bytes plan : List ℕ) (v : ℕ) (e : (read_task bytes).verdict ≡ Ac
   follow-solved =
       loop-keeps (Come bytes plan t p) (Sound bytes plan t p) (turn_of bytes t.index t.offsets plan) (left plan) (refused PLAN-RECORD 0)
       (λ s come. come-keeps bytes plan t p s come _ refl)
-      (λ k program f. absurd (never f))
+      (λ k program f. cc)
       (begin bytes t.index t.presets)
       (record { steps = []; now = initial bytes t; leads = none; stands = begin-stands; form = refl; count = refl; bound = omega arith })
-    where
-      never : {k : ℕ} {program : List ℕ} → refused PLAN-RECORD 0 ≡ accepted k program → ⊥
-      never f = let z : ◌≡◌ {A = ℕ} 0 1 = cc in omega arith
 
   solved-follows : {steps : List PlanStep} {final : State} → plan ≡ plan_of steps → length steps ≤ t.index.bounds.steps → Solves bytes t steps final
       → Accepts bytes plan t p (begin bytes t.index t.presets) (length steps) final
@@ -200,7 +196,7 @@ module _ (bytes plan : List ℕ) (v : ℕ) (e : (read_task bytes).verdict ≡ Ac
         (holds-bytes t.index.bounds program final.lines (omega (arith, h.room, size-most t.index.bounds p.bounded)) h.holds)
 
     module _ (k : ℕ) (filled' : List ℕ) where
-      accepted-solution : (f : Result) → follow bytes t plan ≡ f
+      accepted-solution : (f : Outcome) → follow bytes t plan ≡ f
           → answer (program_size t.index.bounds) buffer f ≡ record { verdict = Accepted k; buffer = filled' } → Solution bytes plan buffer t k filled'
       unfolding answer
       accepted-solution (refused question place) g h = absurd (refused-accepted (ap (λ (c : Answer). c.verdict) h))
@@ -254,7 +250,7 @@ demand-2 bytes plan buffer k filled' = (
 )
 
 -- an answer that refuses has the buffer that was given
-pub answer_keeps : (size : ℕ) (buffer after : List ℕ) (f : Result) (question place : ℕ)
+pub answer_keeps : (size : ℕ) (buffer after : List ℕ) (f : Outcome) (question place : ℕ)
     → answer size buffer f ≡ record { verdict = Refused question place; buffer = after } → after ≡ buffer
 unfolding answer
 answer_keeps size buffer after (refused q p) question place h = sym (ap (λ (c : Answer). c.buffer) h)

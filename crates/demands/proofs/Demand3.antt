@@ -17,10 +17,10 @@ use Rattle.task.specs.Program.{instruction_on, spelled_on}
 use Rattle.task.specs.Reading.{read_task}
 use Rattle.task.specs.declared.bounds.Bounds.{Bounds}
 use Rattle.task.specs.declared.index.Layout.{Layout}
-use Rattle.task.specs.declared.instruction.Decoded.TheVariants.{Is}
+use Rattle.std.specs.Prelude.{Some}
 use Rattle.task.specs.declared.instruction.Instruction.{Instruction}
 use Rattle.task.specs.declared.instruction.Triple.{Triple}
-use Rattle.task.specs.declared.verdict.Verdict.TheVariants.{Accepted, Refused}
+use Rattle.task.specs.Verdict.{Accepted, Refused}
 use Rattle.task.proofs.Laws.Passed.{Passed, passed}
 use Rattle.task.proofs.Laws.Program.{program-passes, passes-program}
 use Rattle.step.specs.Position.{starting}
@@ -28,7 +28,7 @@ use Rattle.step.specs.Run.{Visit}
 use Rattle.step.specs.declared.position.Frame.{Frame}
 use Rattle.step.proofs.Laws.Kept.{starting-possible}
 use Rattle.step.proofs.Laws.Run.{ends-once}
-use Rattle.checker.specs.Answer.{Answer, Result, refused, accepted}
+use Rattle.checker.specs.Answer.{Answer, Outcome, refused, accepted}
 use Rattle.checker.specs.Check.{check}
 use Rattle.checker.specs.Plan.{PlanStep, plan_of, plan_size}
 use Rattle.checker.specs.Write.{start, run, program_result, on_finish, write}
@@ -88,7 +88,7 @@ module _ (bytes : List ℕ) (v : ℕ) (e : (read_task bytes).verdict ≡ Accepte
 
   -- a program whose bytes hold some lines, which extend the presets
   module _ (program : List ℕ) (lines : Frame → Instruction)
-      (held : (f : Frame) → Inside b f → instruction_on t.index program f.procedure f.line ≡ Is (lines f))
+      (held : (f : Frame) → Inside b f → instruction_on t.index program f.procedure f.line ≡ Some (lines f))
       (extends : Extends (Inside b) lines (preset_on bytes t)) where
     start-stands : Stands t lines (start bytes t.index t.presets) (preset_on bytes t) (started bytes t 0)
     unfolding start
@@ -129,7 +129,7 @@ module _ (bytes : List ℕ) (v : ℕ) (e : (read_task bytes).verdict ≡ Accepte
     lines-allowed : LinesAllowed b t.index.actions lines
     lines-allowed = follows-allowed bytes t follows (presets-allowed bytes v e)
 
-    held : (f : Frame) → Inside b f → instruction_on t.index program f.procedure f.line ≡ Is (lines f)
+    held : (f : Frame) → Inside b f → instruction_on t.index program f.procedure f.line ≡ Some (lines f)
     held = held-decodes t program lines (program-holds b lines) lines-allowed
 
     visits : Chain (Taken bytes t) lines (started bytes t 0) (visits_of x.steps) x.final.running
@@ -179,7 +179,7 @@ module _ (bytes : List ℕ) (v : ℕ) (e : (read_task bytes).verdict ≡ Accepte
     abbrev lines_of : Frame → Instruction
     lines_of = instruction_at b program
 
-    lines-held : (f : Frame) → Inside b f → instruction_on t.index program f.procedure f.line ≡ Is (lines_of f)
+    lines-held : (f : Frame) → Inside b f → instruction_on t.index program f.procedure f.line ≡ Some (lines_of f)
     lines-held = line-held t program formed
 
     presets-extended : Extends (Inside b) lines_of (preset_on bytes t)
@@ -320,7 +320,7 @@ pub writer-refusal-keeps : WriterRefusalKeeps
 unfolding write on_finish
 writer-refusal-keeps bytes program buffer after question place h = finish-keeps buffer after (program_result bytes program) question place h
   where
-    finish-keeps : (buffer after : List ℕ) (r : Result) (question place : ℕ) → on_finish buffer r ≡ record { verdict = Refused question place; buffer = after }
+    finish-keeps : (buffer after : List ℕ) (r : Outcome) (question place : ℕ) → on_finish buffer r ≡ record { verdict = Refused question place; buffer = after }
         → after ≡ buffer
     finish-keeps buffer after (refused q n) question place h = sym (ap (λ (a : Answer). a.buffer) h)
     finish-keeps buffer after (accepted k plan) question place h = answer_keeps _ buffer after _ question place h

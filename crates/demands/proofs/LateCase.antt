@@ -24,22 +24,20 @@ use Rattle.task.specs.declared.bounds.Bounds.{Bounds}
 use Rattle.task.specs.declared.index.Case.{Case}
 use Rattle.task.specs.declared.index.Index.{Index}
 use Rattle.task.specs.declared.index.Layout.{Layout}
-use Rattle.task.specs.declared.verdict.Verdict.{Verdict}
-use Rattle.task.specs.declared.verdict.Verdict.TheVariants.{Accepted, Refused}
+use Rattle.task.specs.Verdict.{Verdict, Accepted, Refused}
 use Rattle.task.proofs.Laws.Bounds.{ranges}
 use Rattle.task.proofs.Laws.Passed.{passed}
 use Rattle.task.proofs.Laws.Verdict.{refused-accepted}
 use Rattle.task_file.proofs.TaskFile.{accepted-file, task-file}
 use Rattle.task_file.proofs.Laws.Formed.{case-formed}
 use Rattle.task_file.proofs.Laws.Located.{cases-counted}
+use Rattle.step.specs.Perform.{Stepped, run_step, unchanged}
 use Rattle.step.specs.Position.{origin, starting}
 use Rattle.step.specs.Possible.{unused, frame_fits, possible}
 use Rattle.step.specs.Run.{Visit, EndsCase}
 use Rattle.step.specs.Single.{single_step}
-use Rattle.step.specs.declared.perform.Stepped.{Stepped}
 use Rattle.step.specs.declared.position.Frame.{Frame}
 use Rattle.step.specs.declared.position.Position.{Position}
-use Rattle.step.specs.Perform.{run_step, unchanged}
 use Rattle.step.proofs.Laws.Facts.{every-at}
 use Rattle.step.proofs.Laws.Kept.{starting-possible}
 use Rattle.step.proofs.Laws.Possible.{parts, case_open}
@@ -170,11 +168,7 @@ unfolding frame_fits unused origin
 finish i s h size z =
     let p = parts i s h in
     record {
-      case =
-          elim (ℕ_discrete s.case i.cases) [
-            | yes e ↦ e
-            | no n ↦ absurd (omega (arith, z, case_open i s p.depth n))
-          ];
+      case = grind (arith, case_open i s p.depth);
       frames =
           ext_get_or origin s.frames (replicate 16 origin) (size ∙ sym (length-replicate 16 origin))
           (λ k l.

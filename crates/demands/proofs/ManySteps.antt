@@ -9,20 +9,16 @@ use mathlib.Core.List.{List}
 use native.Mathlib.Omega.{arith}
 use lib.ListN.{length}
 use Rattle.task.specs.Program.{program_verdict}
-use Rattle.task.specs.Reading.{read_task}
+use Rattle.task.specs.Reading.{read_task, Reading}
 use Rattle.task.specs.declared.index.Index.{Index}
-use Rattle.task.specs.declared.reading.Reading.{Reading}
-use Rattle.task.specs.declared.verdict.Verdict.{Verdict}
-use Rattle.task.specs.declared.verdict.Verdict.TheVariants.{Accepted, Refused}
-use Rattle.step.specs.Perform.{unchanged}
+use Rattle.task.specs.Verdict.{Verdict, Accepted, Refused}
+use Rattle.step.specs.Perform.{Stepped, unchanged}
 use Rattle.step.specs.Possible.{possible}
 use Rattle.step.specs.Questions.{POSSIBLE}
 use Rattle.step.specs.Single.{single_step}
-use Rattle.step.specs.declared.perform.Stepped.{Stepped}
 use Rattle.step.specs.declared.position.Position.{Position}
 use Rattle.step.proofs.Laws.Single.{step-impossible, task-refused, program-refused, both-passed, Answers, refuses, stays, makes, single-answers, single-possible}
-use Rattle.steps.specs.Many.{capped, taken_to, steps_from, many_steps}
-use Rattle.steps.specs.declared.many.StepsTaken.{StepsTaken}
+use Rattle.steps.specs.Many.{StepsTaken, capped, taken_to, steps_from, many_steps}
 use Rattle.steps.proofs.Laws.Many.{few-asked, many-task-refused, many-program-refused, BothPass, many-impossible, many-runs}
 use Rattle.steps.proofs.Laws.Running.{steps-refused, steps-finished, steps-onward}
 use Rattle.demands.specs.ManySteps.{counting, later, CallsJoin, made_by, as_call, CallsAreSteps}

@@ -13,18 +13,17 @@ use Rattle.records.proofs.Laws.Loop.{Keeps, loop-keeps}
 use Rattle.task.specs.Program.{program_verdict}
 use Rattle.task.specs.Reading.{read_task}
 use Rattle.task.specs.declared.index.Layout.{Layout}
-use Rattle.task.specs.declared.verdict.Verdict.TheVariants.{Accepted}
+use Rattle.task.specs.Verdict.{Accepted}
 use Rattle.task.proofs.Laws.Passed.{Passed, passed}
-use Rattle.step.specs.Perform.{run_step, answered}
+use Rattle.step.specs.Perform.{Stepped, run_step, answered}
 use Rattle.step.specs.Position.{starting}
 use Rattle.step.specs.Possible.{possible}
 use Rattle.step.specs.Single.{single_step}
-use Rattle.step.specs.declared.perform.Stepped.{Stepped}
 use Rattle.step.specs.declared.position.Position.{Position}
 use Rattle.step.proofs.Laws.Kept.{starting-possible}
 use Rattle.step.proofs.Laws.Possible.{parts, case_open, case-finished}
 use Rattle.step.proofs.Laws.Single.{step-runs, both-passed}
-use Rattle.checker.specs.Answer.{Result, refused, accepted}
+use Rattle.checker.specs.Answer.{Outcome, refused, accepted}
 use Rattle.checker.specs.Write.{Writing, write_turn, steps_left, start, run}
 use Rattle.checker.proofs.Laws.Turns.{Standing}
 use Rattle.checker.proofs.Laws.Write.{goes-written, written-runs, written-steps, written_stands, accepts-finished}
@@ -56,7 +55,7 @@ module _ (bytes program : List ℕ) (v p : ℕ) (h : (read_task bytes).verdict �
     here : record_after bytes program s.position.steps ≡ s.position
     made : (j : ℕ) → j < s.position.steps → (single_step bytes program (record_after bytes program j)).verdict ≡ Accepted 1
 
-  abbrev Claim : Result → Type 0
+  abbrev Claim : Outcome → Type 0
   Claim (refused question place) = Unit
   Claim (accepted k plan) = Reaches bytes program k
 
@@ -76,7 +75,7 @@ module _ (bytes program : List ℕ) (v p : ℕ) (h : (read_task bytes).verdict �
         by true z = rw (eqb-true j _ z) (ap (λ (r : Stepped). r.verdict) from-here)
         by false z = a.made j (omega (arith, l, eqb-false j _ z))
 
-  turn-keeps : (s : Writing) → At s → (u : Turn Writing Result) → write_turn bytes t.index t.offsets program s ≡ u → Keeps At Claim u
+  turn-keeps : (s : Writing) → At s → (u : Turn Writing Outcome) → write_turn bytes t.index t.offsets program s ≡ u → Keeps At Claim u
   turn-keeps s a (go u) e =
       let w = goes-written bytes t.index t.offsets s program u e in
       let above = case_open t.index s.position (parts t.index s.position a.standing.0).depth (omega (arith, w.case)) in

@@ -7,7 +7,7 @@ use Rattle.task.specs.Reading.{read_task}
 use Rattle.task.specs.declared.bounds.Bounds.{Bounds}
 use Rattle.task.specs.declared.index.Layout.{Layout}
 use Rattle.task.specs.declared.instruction.Instruction.{Instruction}
-use Rattle.task.specs.declared.verdict.Verdict.TheVariants.{Accepted, Refused}
+use Rattle.task.specs.Verdict.{Accepted, Refused}
 use Rattle.step.specs.declared.position.Frame.{Frame}
 use Rattle.checker.specs.Check.{check}
 use Rattle.checker.specs.Plan.{PlanStep, plan_of}

@@ -11,7 +11,7 @@ use Rattle.task.specs.declared.index.Layout.{Layout}
 use Rattle.task.specs.declared.instruction.Instruction.{Instruction}
 use Rattle.task.specs.declared.instruction.Instruction.TheVariants.{Empty}
 use Rattle.task.specs.declared.instruction.Triple.{Triple}
-use Rattle.task.specs.declared.verdict.Verdict.TheVariants.{Accepted, Refused}
+use Rattle.task.specs.Verdict.{Accepted, Refused}
 use Rattle.step.specs.Position.{same_frame}
 use Rattle.step.specs.Run.{Visit, EndsCase}
 use Rattle.step.specs.declared.position.Frame.{Frame}

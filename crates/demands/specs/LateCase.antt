@@ -10,8 +10,7 @@ use Rattle.task.specs.Task.{with_case}
 use Rattle.task.specs.TaskAt.{task_of}
 use Rattle.task.specs.declared.index.Case.{Case}
 use Rattle.task.specs.declared.index.Index.{Index}
-use Rattle.task.specs.declared.verdict.Verdict.{Verdict}
-use Rattle.task.specs.declared.verdict.Verdict.TheVariants.{Accepted, Refused}
+use Rattle.task.specs.Verdict.{Verdict, Accepted, Refused}
 use Rattle.task_file.specs.Bytes.{case_record}
 use Rattle.task_file.specs.TaskFile.{Means}
 use Rattle.step.specs.Position.{origin}

@@ -1,12 +1,10 @@
 -- Calls for a number of steps, beside one another and beside single steps: two calls are one call, and a call for one step is a single step.
 use Rattle.std.specs.Prelude.{ℕ, ◌+◌, ◌≤◌, ◌≡◌, List, length}
-use Rattle.task.specs.declared.verdict.Verdict.{Verdict}
-use Rattle.task.specs.declared.verdict.Verdict.TheVariants.{Accepted, Refused}
+use Rattle.task.specs.Verdict.{Verdict, Accepted, Refused}
+use Rattle.step.specs.Perform.{Stepped}
 use Rattle.step.specs.Single.{single_step}
-use Rattle.step.specs.declared.perform.Stepped.{Stepped}
 use Rattle.step.specs.declared.position.Position.{Position}
-use Rattle.steps.specs.Many.{capped, taken_to, many_steps}
-use Rattle.steps.specs.declared.many.StepsTaken.{StepsTaken}
+use Rattle.steps.specs.Many.{StepsTaken, capped, taken_to, many_steps}
 use Rattle.demands.specs.SingleSteps.{repeated, steps_on}
 
 -- a value with j steps more; a refusal has its number and its place whatever was made before

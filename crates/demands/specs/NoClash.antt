@@ -3,11 +3,10 @@
 use Rattle.std.specs.Prelude.{ℕ, ◌<◌, ◌≡◌, not, ◌&&◌, ◌||◌, List}
 use Rattle.task.specs.Program.{program_verdict}
 use Rattle.task.specs.Reading.{read_task}
-use Rattle.task.specs.Verdict.{number_of}
+use Rattle.task.specs.Verdict.{number_of, Verdict}
 use Rattle.task.specs.declared.index.Case.{Case}
 use Rattle.task.specs.declared.index.Effect.{Effect}
 use Rattle.task.specs.declared.index.Index.{Index}
-use Rattle.task.specs.declared.verdict.Verdict.{Verdict}
 use Rattle.step.specs.Effects.{fired, some_has, changes_of, changed}
 use Rattle.step.specs.Facts.{has}
 use Rattle.step.specs.Questions.{CLASH}

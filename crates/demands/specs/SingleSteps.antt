@@ -3,7 +3,7 @@
 use Rattle.std.specs.Prelude.{ℕ, zero, suc, ◌<◌, ◌≡◌, List}
 use Rattle.task.specs.Index.{case_at}
 use Rattle.task.specs.Reading.{read_task}
-use Rattle.task.specs.declared.verdict.Verdict.TheVariants.{Accepted}
+use Rattle.task.specs.Verdict.{Accepted}
 use Rattle.step.specs.Position.{starting}
 use Rattle.step.specs.Single.{single_step}
 use Rattle.step.specs.declared.position.Position.{Position}

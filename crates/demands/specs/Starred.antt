@@ -5,8 +5,7 @@ use Rattle.std.specs.Prelude.{ℕ, ◌≡◌, List, [], ◌∷◌, ◌++◌, map
 use Rattle.records.specs.Record.{record_bytes, closing}
 use Rattle.task.specs.Task.{Task}
 use Rattle.task.specs.TaskAt.{task_of}
-use Rattle.task.specs.declared.verdict.Verdict.{Verdict}
-use Rattle.task.specs.declared.verdict.Verdict.TheVariants.{Accepted, Refused}
+use Rattle.task.specs.Verdict.{Verdict, Accepted, Refused}
 use Rattle.task_file.specs.Bytes.{task_bytes}
 use Rattle.checker.specs.Answer.{Answer}
 use Rattle.checker.specs.Check.{check}

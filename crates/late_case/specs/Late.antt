@@ -9,8 +9,7 @@ use Rattle.task.specs.Task.{with_case}
 use Rattle.task.specs.TaskAt.{task_of}
 use Rattle.task.specs.declared.index.Case.{Case}
 use Rattle.task.specs.declared.index.Index.{Index}
-use Rattle.task.specs.declared.verdict.Verdict.{Verdict}
-use Rattle.task.specs.declared.verdict.Verdict.TheVariants.{Accepted, Refused}
+use Rattle.task.specs.Verdict.{Verdict, Accepted, Refused}
 use Rattle.task_file.specs.Bytes.{task_bytes}
 use Rattle.step.specs.Possible.{possible}
 use Rattle.step.specs.Questions.{POSSIBLE}

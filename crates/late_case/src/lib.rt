@@ -3,4 +3,3 @@
 
 pub mod late;
 mod put;
-pub mod questions;

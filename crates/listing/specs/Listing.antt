@@ -1,15 +1,12 @@
 -- What is printed of a plan: `refused`, the question's number and the place; or `accepted` and the number of steps, and then the program:
 -- every procedure with its number, and every line 0 to n of it with its number, its instruction and the operands. Each stands on a line
 -- of its own, and every number is in decimal.
-use Rattle.std.specs.Prelude.{ℕ, zero, suc, ◌+◌, List, [], ◌++◌, length, take, drop}
+use Rattle.std.specs.Prelude.{ℕ, zero, suc, ◌+◌, List, [], ◌++◌, length, take, drop, Option, Some, None}
 use Rattle.task.specs.Program.{instruction_on}
 use Rattle.task.specs.declared.index.Index.{Index}
 use Rattle.task.specs.declared.instruction.Instruction.{Instruction}
 use Rattle.task.specs.declared.instruction.Instruction.TheVariants.{Empty, Act, Goto, Call, End}
-use Rattle.task.specs.declared.instruction.Decoded.{Decoded}
-use Rattle.task.specs.declared.instruction.Decoded.TheVariants.{Is, Nothing}
-use Rattle.task.specs.declared.verdict.Verdict.{Verdict}
-use Rattle.task.specs.declared.verdict.Verdict.TheVariants.{Accepted, Refused}
+use Rattle.task.specs.Verdict.{Verdict, Accepted, Refused}
 use Rattle.listing.specs.Decimal.{decimal, labelled}
 use Rattle.listing.specs.Words.{REFUSED, ACCEPTED, PROCEDURE, EMPTY, ACT, GOTO, CALL, END, SPACE, NEWLINE}
 
@@ -22,9 +19,9 @@ instruction_text (Call procedure) = labelled CALL procedure.0
 instruction_text End = END
 
 -- what a line's three bytes decoded to; bytes that are no instruction have no name
-unfoldable pub decoded_text : Decoded → List ℕ
-decoded_text (Is w) = instruction_text w
-decoded_text Nothing = []
+unfoldable pub decoded_text : Option Instruction → List ℕ
+decoded_text (Some w) = instruction_text w
+decoded_text None = []
 
 -- texts number 0, 1 and so on, so many of them, one after the other
 unfoldable pub in_order : (ℕ → List ℕ) → ℕ → List ℕ

@@ -2,49 +2,51 @@
 // program, procedure by procedure and line by line.
 ghost use Rattle.std.specs.Prelude.{◌≡◌, min, length};
 ghost use Rattle.task.specs.Program.{line_bytes, instruction_on};
+ghost use Rattle.task.specs.Verdict.{verdict};
 ghost use Rattle.listing.specs.Listing.{instruction_text, decoded_text, line_text, procedure_text, listing_text, report_text, filled};
-ghost use Rattle.listing.specs.Page.{page, puts};
+ghost use Rattle.listing.specs.Page.{HasPut};
 
-use crate::page::{put, put_decimal, put_labelled, put_word};
+use crate::page::Page;
 use records::numbers::byte_at;
 use task::bounds::Bounds;
 use task::index::Index;
-use task::instruction::{Decoded, Instruction, Line, Proc, Triple, decode};
+use task::instruction::{Instruction, Line, Proc, Triple, decode};
 use task::program::line_offset;
-use task::verdict::Verdict;
+use task::refusal::Refusal;
 
 // An instruction's name and its operands.
-fn put_instruction(text: &mut [u8], at: usize, w: Instruction) -> usize
-    ensures { page result text.new ≡ puts (page at text.old) (instruction_text w) }
+#[tactic(auto, using(crate::proofs::Laws::Page::puts_append), unfolding(crate::specs::Listing::instruction_text))]
+fn put_instruction(page: &mut Page<'_>, w: Instruction)
+    ensures { HasPut page.old (instruction_text w) page.new }
 {
     match w {
-        Instruction::Empty => put_word(text, at, b" empty"),
-        Instruction::Act(action) => put_labelled(text, at, b" act ", action as usize),
-        Instruction::Goto(target, fact) => {
-            let line = target.0;
-            let next = put_labelled(text, at, b" goto ", line as usize);
-            put_labelled(text, next, b" ", fact as usize)
+        Instruction::Empty => page.put_word(b" empty"),
+        Instruction::Act(action) => page.put_labelled(b" act ", action as usize),
+        Instruction::Goto(Line(line), fact) => {
+            page.put_labelled(b" goto ", line as usize);
+            page.put_labelled(b" ", fact as usize);
         }
-        Instruction::Call(procedure) => put_labelled(text, at, b" call ", procedure.0 as usize),
-        Instruction::End => put_word(text, at, b" end"),
+        Instruction::Call(Proc(procedure)) => page.put_labelled(b" call ", procedure as usize),
+        Instruction::End => page.put_word(b" end"),
     }
 }
 
 // What three bytes decoded to.
-fn put_decoded(text: &mut [u8], at: usize, decoded: Decoded) -> usize
-    ensures { page result text.new ≡ puts (page at text.old) (decoded_text decoded) }
+#[tactic(auto, using(crate::proofs::Laws::Page::puts_none), unfolding(crate::specs::Listing::decoded_text))]
+fn put_decoded(page: &mut Page<'_>, decoded: Option<Instruction>)
+    ensures { HasPut page.old (decoded_text decoded) page.new }
 {
-    match decoded {
-        Decoded::Is(w) => put_instruction(text, at, w),
-        Decoded::Nothing => at,
+    if let Some(w) = decoded {
+        put_instruction(page, w);
     }
 }
 
-// The three bytes on a line of a procedure.
-fn line_bytes(b: Bounds, program: &[u8], procedure: u8, line: u8) -> Triple
-    ensures { result ≡ line_bytes b program.now (record { 0 = procedure }) (record { 0 = line }) }
+// The three bytes on a line of a procedure. They need not be there, as they must for `triple_at`: a byte past the program's end counts as 0.
+#[tactic(auto, using(crate::proofs::Laws::Line::line_room), unfolding(task::specs::Instruction::triple_at))]
+fn line_bytes(b: Bounds, program: &[u8], procedure: Proc, line: Line) -> Triple
+    ensures { result ≡ line_bytes b program.now procedure line }
 {
-    let at = line_offset(b, Proc(procedure), Line(line));
+    let at = line_offset(b, procedure, line);
     Triple {
         op: byte_at(program, at),
         p: byte_at(program, at + 1),
@@ -52,87 +54,95 @@ fn line_bytes(b: Bounds, program: &[u8], procedure: u8, line: u8) -> Triple
     }
 }
 
-// The instruction on a line of a procedure, if these bytes spell one that is allowed there.
-fn instruction_on(index: Index, program: &[u8], procedure: u8, line: u8) -> Decoded
-    ensures { result ≡ instruction_on index program.now (record { 0 = procedure }) (record { 0 = line }) }
-{
-    let bounds = index.bounds;
-    let w = line_bytes(bounds, program, procedure, line);
-    decode(bounds, index.actions, Line(line), w)
-}
-
-// One line of a procedure: its number and its instruction.
-fn put_line(
-    text: &mut [u8],
-    at: usize,
+// A program, of any length, for a task with this index.
+#[derive(Clone, Copy)]
+struct Program<'a> {
     index: Index,
-    program: &[u8],
-    procedure: u8,
-    line: u8,
-) -> usize
-    ensures { page result text.new
-        ≡ puts (page at text.old) (line_text index program.now procedure line) }
-{
-    let decoded = instruction_on(index, program, procedure, line);
-    let behind_number = put_decimal(text, at, line as usize);
-    let behind_instruction = put_decoded(text, behind_number, decoded);
-    put(text, behind_instruction, b'\n')
+    bytes: &'a [u8],
 }
 
-// A procedure: its number, and its lines 0 to n.
-fn put_procedure(text: &mut [u8], at: usize, index: Index, program: &[u8], procedure: u8) -> usize
-    ensures { page result text.new
-        ≡ puts (page at text.old) (procedure_text index program.now procedure) }
-{
-    let head = put_labelled(text, at, b"procedure ", procedure as usize);
-    let count = index.bounds.last as usize + 1;
-    let mut next = put(text, head, b'\n');
-    let mut line = 0;
-    while line < count {
-        next = put_line(text, next, index, program, procedure, line as u8);
-        line += 1;
+impl Program<'_> {
+    // The instruction on a line of a procedure, if these bytes spell one that is allowed there.
+    #[tactic(auto, unfolding(task::specs::Program::instruction_on))]
+    fn instruction_on(&self, procedure: Proc, line: Line) -> Option<Instruction>
+        ensures { result ≡ instruction_on self.now.index self.now.bytes.now procedure line }
+    {
+        let bounds = self.index.bounds;
+        let triple = line_bytes(bounds, self.bytes, procedure, line);
+        decode(bounds, self.index.actions, line, triple)
     }
-    next
-}
 
-// A program: every procedure.
-fn put_listing(text: &mut [u8], at: usize, index: Index, program: &[u8]) -> usize
-    ensures { page result text.new
-        ≡ puts (page at text.old) (listing_text index program.now) }
-{
-    let count = index.bounds.procedures;
-    let mut next = at;
-    let mut procedure = 0;
-    while procedure < count {
-        next = put_procedure(text, next, index, program, procedure);
-        procedure += 1;
+    // One line of a procedure: its number and its instruction.
+    #[tactic(auto, using(crate::proofs::Laws::Page::puts_append), unfolding(crate::specs::Listing::line_text))]
+    fn put_line(&self, page: &mut Page<'_>, procedure: u8, line: u8)
+        ensures { HasPut page.old (line_text self.now.index self.now.bytes.now procedure line)
+            page.new }
+    {
+        page.put_decimal(line as usize);
+        put_decoded(page, self.instruction_on(Proc(procedure), Line(line)));
+        page.put(b'\n');
     }
-    next
-}
 
-// Any verdict on a plan, from the start of the text.
-fn put_report(text: &mut [u8], verdict: Verdict, index: Index, program: &[u8]) -> usize
-    ensures { page result text.new
-        ≡ puts (page 0 text.old) (report_text verdict index program.now) }
-{
-    match verdict {
-        Verdict::Refused { question, place } => {
-            let number = put_labelled(text, 0, b"refused ", question as usize);
-            let next = put_labelled(text, number, b" ", place);
-            put(text, next, b'\n')
+    // A procedure: its number, and its lines 0 to n.
+    #[tactic(auto, using(crate::proofs::Laws::Page::puts_append, crate::proofs::Laws::Page::puts_none), unfolding(crate::specs::Listing::procedure_text, crate::specs::Listing::in_order))]
+    fn put_procedure(&self, page: &mut Page<'_>, procedure: u8)
+        ensures { HasPut page.old (procedure_text self.now.index self.now.bytes.now procedure)
+            page.new }
+    {
+        page.put_labelled(b"procedure ", procedure as usize);
+        page.put(b'\n');
+        for line in 0..=self.index.bounds.last {
+            self.put_line(page, procedure, line);
         }
-        Verdict::Accepted { value } => {
-            let number = put_labelled(text, 0, b"accepted ", value);
-            let next = put(text, number, b'\n');
-            put_listing(text, next, index, program)
+    }
+
+    // Every procedure.
+    #[tactic(auto, using(crate::proofs::Laws::Page::puts_append, crate::proofs::Laws::Page::puts_none), unfolding(crate::specs::Listing::listing_text, crate::specs::Listing::in_order))]
+    fn put_listing(&self, page: &mut Page<'_>)
+        ensures { HasPut page.old (listing_text self.now.index self.now.bytes.now) page.new }
+    {
+        for procedure in 0..self.index.bounds.procedures {
+            self.put_procedure(page, procedure);
+        }
+    }
+}
+
+// Any answer on a plan.
+#[tactic(auto, using(crate::proofs::Laws::Page::puts_append), unfolding(crate::specs::Listing::report_text))]
+fn put_report(page: &mut Page<'_>, answer: Result<usize, Refusal>, program: &Program<'_>)
+    ensures { HasPut page.old
+        (report_text (verdict answer) program.now.index program.now.bytes.now) page.new }
+{
+    match answer {
+        Err(Refusal { question, place }) => {
+            page.put_labelled(b"refused ", question.number() as usize);
+            page.put_labelled(b" ", place);
+            page.put(b'\n');
+        }
+        Ok(steps) => {
+            page.put_labelled(b"accepted ", steps);
+            page.put(b'\n');
+            program.put_listing(page);
         }
     }
 }
 
 // Writes the report on a plan at the start of a text, and answers how many bytes it wrote: all, or those that fit.
-pub fn report(verdict: Verdict, index: Index, program: &[u8], text: &mut [u8]) -> usize
-    ensures { (result ≡ min (length (report_text verdict index program.now)) (length text.old))
-        × (text.new ≡ filled (report_text verdict index program.now) text.old) }
+#[tactic(auto, using(crate::proofs::Laws::Page::put_all))]
+pub fn report(
+    answer: Result<usize, Refusal>,
+    index: Index,
+    program: &[u8],
+    text: &mut [u8],
+) -> usize
+    ensures { (result ≡ min (length (report_text (verdict answer) index program.now)) (length text.old))
+        × (text.new ≡ filled (report_text (verdict answer) index program.now) text.old) }
 {
-    put_report(text, verdict, index, program)
+    let program = Program {
+        index,
+        bytes: program,
+    };
+    let mut page = Page { text, at: 0 };
+    put_report(&mut page, answer, &program);
+    page.at
 }

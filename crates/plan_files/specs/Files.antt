@@ -1,7 +1,7 @@
 -- A task and a plan in two files, what is printed on them, and how long that is. Question 30 comes first, then those of the checker.
 use Rattle.std.specs.Prelude.{ℕ, ◌≤◌, List, cond, ◌&&◌, length, replicate, leb}
 use Rattle.task.specs.Reading.{read_task}
-use Rattle.task.specs.declared.verdict.Verdict.TheVariants.{Refused}
+use Rattle.task.specs.Verdict.{Refused}
 use Rattle.checker.specs.Answer.{Answer}
 use Rattle.checker.specs.Check.{check}
 use Rattle.listing.specs.Listing.{report_text}

@@ -2,47 +2,42 @@
 #![tactic(auto)]
 
 ghost use Rattle.std.specs.Prelude.{◌≡◌, min, ◌≤◌, length};
-ghost use Rattle.std.specs.Counts.{IsPrefixLen};
+ghost use Rattle.task.specs.Reading.{read_task};
+ghost use Rattle.task.specs.Verdict.{verdict};
 ghost use Rattle.listing.specs.Listing.{filled};
-ghost use Rattle.task.specs.declared.verdict.Verdict.TheVariants.{Refused};
-ghost use Rattle.plan_files.specs.Files.{FILE-LENGTH, LONGEST, check_files, printed};
+ghost use Rattle.plan_files.specs.Files.{check_files, printed};
 
 use checker::check::check_plan;
 use listing::listing::report;
 use std::io::Read;
 use std::rt::Files;
 use std::{fs, io};
+use task::index::Index;
+use task::questions::Question;
 use task::reading::read_task;
-use task::verdict::Verdict;
+use task::refusal::Refusal;
 
-// Is each file at most 65,536 bytes long?
-const FILE_LENGTH: u8 = 30;
 // The most bytes that a file may have.
 const LONGEST: usize = 65536;
 
-// A file is too long.
-fn too_long() -> Verdict
-    ensures { result ≡ Refused FILE-LENGTH LONGEST }
-{
-    Verdict::Refused {
-        question: FILE_LENGTH,
-        place: LONGEST,
-    }
-}
-
 // Question 30, and then the checker's.
 #[tactic(auto, unfolding(crate::specs::Files::check_files))]
-fn check_bytes(task: &[u8], plan: &[u8], program: &mut [u8]) -> Verdict
-    ensures { record { verdict = result; buffer = program.new }
+fn check_bytes(task: &[u8], plan: &[u8], program: &mut [u8]) -> Result<usize, Refusal>
+    ensures { record { verdict = verdict result; buffer = program.new }
         ≡ check_files task.now plan.now program.old }
 {
-    if LONGEST < task.len() {
-        return too_long();
-    }
-    if LONGEST < plan.len() {
-        return too_long();
+    if LONGEST < task.len() || LONGEST < plan.len() {
+        return Err(Question::FileTooLong.at(LONGEST));
     }
     check_plan(task, plan, program)
+}
+
+// A task's index; where the task is turned down, that of no task.
+#[tactic(auto, unfolding(task::specs::Reading::reading, task::specs::Reading::accepted, task::specs::Reading::refused, task::specs::Reading::no_layout, task::specs::Reading::no_index))]
+fn index_of(task: &[u8]) -> Index
+    ensures { result ≡ (read_task task.now).layout.index }
+{
+    read_task(task).map_or(Index::default(), |layout| layout.index)
 }
 
 // Writes what is printed on a task's and a plan's bytes at the start of a text, and answers how many bytes it wrote: all, where the text has 4,096.
@@ -53,40 +48,32 @@ pub fn print_check(task: &[u8], plan: &[u8], text: &mut [u8]) -> usize
         × (4096 ≤ length text.old → result ≡ length (printed task.now plan.now)) }
 {
     let mut program = [0u8; 768];
-    let verdict = check_bytes(task, plan, &mut program);
-    let read = read_task(task).layout;
-    report(verdict, read.index, &program, text)
+    let answer = check_bytes(task, plan, &mut program);
+    report(answer, index_of(task), &program, text)
 }
 
-// Room for the longest file, and for one byte that shows that a file is longer.
-fn file_space() -> [u8; 65537]
-    ensures { 65537 ≡ length result }
-{
-    [0; 65537]
-}
-
-// Reads until the space is full, the file ends or a read fails, and answers how many bytes it read.
-fn read_full(file: &mut impl Read, space: &mut [u8]) -> usize
-    ensures { IsPrefixLen result space.new }
+// Reads until the space is full, the file ends or a read fails: what was read. Only the file knows how many reads that takes, so this is no `for`; and
+// std's `read_to_end` wants a heap.
+fn read_full<'a>(file: &mut impl Read, space: &'a mut [u8]) -> &'a [u8]
+    ensures { length result.now ≤ length space.old }
 {
     let mut size = 0;
-    while size < space.len() {
-        let read = file.read(&mut space[size..]).unwrap_or(0);
+    while let Ok(read) = file.read(&mut space[size..]) {
         if read == 0 {
-            return size;
+            break;
         }
         size += read;
     }
-    size
+    &space[..size]
 }
 
-// Reads a file from its start, and answers how many bytes there are: none where it cannot be opened or read.
-fn read_file(rt: &impl Files, path: &str, space: &mut [u8]) -> usize
-    ensures { IsPrefixLen result space.new }
+// Reads a file from its start: as much of it as the space has room for, and nothing where it cannot be opened.
+fn read_file<'a>(rt: &impl Files, path: &str, space: &'a mut [u8]) -> &'a [u8]
+    ensures { length result.now ≤ length space.old }
 {
     match fs::open(rt, path) {
         Ok(mut file) => read_full(&mut file, space),
-        Err(_) => 0,
+        Err(_) => &[],
     }
 }
 
@@ -99,9 +86,10 @@ fn write_report(rt: &impl Print, task: &[u8], plan: &[u8]) -> io::Result<()> {
 
 // Checks the plan in the working folder and prints the report.
 pub fn check_files(rt: &(impl Files + Print)) -> io::Result<()> {
-    let mut task = file_space();
-    let mut plan = file_space();
-    let task_size = read_file(rt, "task.bin", &mut task);
-    let plan_size = read_file(rt, "plan.bin", &mut plan);
-    write_report(rt, &task[..task_size], &plan[..plan_size])
+    // Room for the longest file, and for one byte that shows that a file is longer.
+    let mut task = [0u8; LONGEST + 1];
+    let mut plan = [0u8; LONGEST + 1];
+    let task = read_file(rt, "task.bin", &mut task);
+    let plan = read_file(rt, "plan.bin", &mut plan);
+    write_report(rt, task, plan)
 }

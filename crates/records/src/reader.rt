@@ -3,7 +3,7 @@
 ghost use Rattle.std.specs.Prelude.{◌≡◌};
 ghost use Rattle.records.specs.Record.{record_at};
 
-use crate::record::{Found, record_at};
+use crate::record::{Record, record_at};
 
 // A plan, and an offset in it.
 #[derive(Clone, Copy)]
@@ -30,16 +30,16 @@ impl<'a> Reader<'a> {
         }
     }
 
-    // The record at the reader's offset, or that it is not all there.
-    fn next(self) -> Found
+    // The record at the reader's offset, if it is all there.
+    fn next(self) -> Option<Record>
         ensures { result ≡ record_at self.entry.plan.now self.entry.at }
     {
         record_at(self.plan, self.at)
     }
 }
 
-// The record at an offset of a plan, or that it is not all there.
-pub fn plan_record(plan: &[u8], at: usize) -> Found
+// The record at an offset of a plan, if it is all there.
+pub fn plan_record(plan: &[u8], at: usize) -> Option<Record>
     ensures { result ≡ record_at plan.now at }
 {
     Reader::new(plan).moved(at).next()

@@ -1,6 +1,6 @@
 -- One step: one instruction at a position. The step stops with the number of the first question that says no, or goes to the next
 -- position, with one step more done. `bytes` are the task's, `i` and `offsets` parts of their layout.
-use Rattle.std.specs.Prelude.{ℕ, ◌+◌, List, cond, get_or, ltb}
+use Rattle.std.specs.Prelude.{ℕ, ◌+◌, List, cond, get_or, ltb, Option, Some, None, Result, Ok, Err}
 use Rattle.records.specs.Loop.{Turn, stop, go, ask}
 use Rattle.task.specs.Index.{action_at, effects_of, case_at}
 use Rattle.task.specs.Program.{instruction_on}
@@ -9,15 +9,12 @@ use Rattle.task.specs.declared.instruction.Line.{Line}
 use Rattle.task.specs.declared.instruction.Proc.{Proc}
 use Rattle.task.specs.declared.instruction.Instruction.{Instruction}
 use Rattle.task.specs.declared.instruction.Instruction.TheVariants.{Empty, Act, Goto, Call, End}
-use Rattle.task.specs.declared.instruction.Decoded.{Decoded}
-use Rattle.task.specs.declared.instruction.Decoded.TheVariants.{Is, Nothing}
-use Rattle.task.specs.declared.verdict.Verdict.{Verdict}
-use Rattle.task.specs.declared.verdict.Verdict.TheVariants.{Accepted, Refused}
+use Rattle.task.specs.Verdict.{Verdict, Accepted, Refused, number}
+use Rattle.task.specs.declared.refusal.Refusal.{Refusal}
 use Rattle.step.specs.Effects.{changes_of, changed}
 use Rattle.step.specs.Facts.{has, holds}
 use Rattle.step.specs.Position.{top, jumped, advanced, pushed, popped, with_facts, next_case, finished, counted}
 use Rattle.step.specs.Questions.{STEPS, PRECONDITION, STACK, GOAL, EMPTY}
-use Rattle.step.specs.declared.perform.Stepped.{Stepped}
 use Rattle.step.specs.declared.position.Position.{Position}
 
 -- act, given where the action's record is: question 19; the facts change, and the line grows by 1
@@ -55,9 +52,9 @@ module _ (bytes : List ℕ) (i : Index) (offsets : List ℕ) where
   perform s End = end bytes i s
 
   -- what stands on a line; a line that holds no instruction, which question 26 lets no program have, is as an empty one
-  unfoldable pub perform_decoded : Position → Decoded → Turn Position ℕ
-  perform_decoded s (Is w) = perform s w
-  perform_decoded s Nothing = stop EMPTY
+  unfoldable pub perform_decoded : Position → Option Instruction → Turn Position ℕ
+  perform_decoded s (Some w) = perform s w
+  perform_decoded s None = stop EMPTY
 
   module _ (program : List ℕ) (s : Position) where
     -- the top frame's line of a program: questions 28 and 19 to 22
@@ -68,6 +65,11 @@ module _ (bytes : List ℕ) (i : Index) (offsets : List ℕ) where
     unfoldable pub run_step : Turn Position ℕ
     run_step = ask (ltb s.steps i.bounds.steps) STEPS run_line
 
+-- the answer to one step, and the position after it: the next one, or after a refusal the same
+pub record Stepped : Type 0 where
+  pub verdict : Verdict
+  pub position : Position
+
 -- an answer that leaves the position as it was
 unfoldable pub unchanged : Position → Verdict → Stepped
 unchanged s verdict = record { verdict = verdict; position = s }
@@ -76,3 +78,9 @@ unchanged s verdict = record { verdict = verdict; position = s }
 unfoldable pub answered : Position → Turn Position ℕ → Stepped
 answered s (stop question) = unchanged s (Refused question s.steps)
 answered s (go next) = record { verdict = Accepted 1; position = next }
+
+-- what the code's answer to one step from a position stands for: 0 and 0 for a finished run, or 0 and 1 with the next position
+unfoldable pub stepped : Position → Result (Option Position) Refusal → Stepped
+stepped s (Ok None) = unchanged s (Accepted 0)
+stepped s (Ok (Some next)) = record { verdict = Accepted 1; position = next }
+stepped s (Err r) = unchanged s (Refused (number r.question) r.place)

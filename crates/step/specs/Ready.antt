@@ -9,7 +9,7 @@ use Rattle.task.specs.declared.index.Index.{Index}
 use Rattle.task.specs.declared.instruction.Instruction.{Instruction}
 use Rattle.task.specs.declared.instruction.Instruction.TheVariants.{Act, Call}
 use Rattle.task.specs.declared.instruction.Proc.{Proc}
-use Rattle.task.specs.declared.verdict.Verdict.TheVariants.{Accepted}
+use Rattle.task.specs.Verdict.{Accepted}
 use Rattle.step.specs.Possible.{possible}
 use Rattle.step.specs.declared.position.Position.{Position}
 

@@ -2,15 +2,12 @@
 -- is, with 0 and 0; otherwise 14, 28 and 19 to 22, and then 0 and 1 with the next position. A refusal gives the position back as it was.
 use Rattle.std.specs.Prelude.{ℕ, List, cond, eqb}
 use Rattle.task.specs.Program.{program_verdict}
-use Rattle.task.specs.Reading.{read_task}
+use Rattle.task.specs.Reading.{read_task, Reading}
 use Rattle.task.specs.declared.index.Index.{Index}
-use Rattle.task.specs.declared.reading.Reading.{Reading}
-use Rattle.task.specs.declared.verdict.Verdict.{Verdict}
-use Rattle.task.specs.declared.verdict.Verdict.TheVariants.{Accepted, Refused}
-use Rattle.step.specs.Perform.{run_step, unchanged, answered}
+use Rattle.task.specs.Verdict.{Verdict, Accepted, Refused}
+use Rattle.step.specs.Perform.{Stepped, run_step, unchanged, answered}
 use Rattle.step.specs.Possible.{possible}
 use Rattle.step.specs.Questions.{POSSIBLE}
-use Rattle.step.specs.declared.perform.Stepped.{Stepped}
 use Rattle.step.specs.declared.position.Position.{Position}
 
 -- what follows a verdict: the rest if it accepts; a refusal is the answer

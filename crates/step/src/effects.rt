@@ -8,7 +8,7 @@ use crate::facts::holds;
 use task::index::effect_at;
 
 // The facts that fired effects raise, and those that they lower.
-#[derive(Clone, Copy)]
+#[derive(Clone, Copy, Debug, PartialEq, Eq)]
 pub struct Changes {
     pub raised: u64,
     pub lowered: u64,
@@ -21,16 +21,13 @@ pub(crate) fn changes_of(task: &[u8], at: usize, effects: u16, state: u64) -> Ch
 {
     let mut raised = 0;
     let mut lowered = 0;
-    let mut e = 0;
-    while e < effects {
-        let number = e;
-        e += 1;
-        let condition = effect_at(task, at, number).condition;
-        if holds(state, condition.positive, condition.negative) {
+    for e in 0..effects {
+        let condition = effect_at(task, at, e).condition;
+        if holds(state, condition) {
             // Read here, so that of an effect that does not fire the condition alone is loaded.
-            let effect = effect_at(task, at, number);
-            raised = raised | effect.raised;
-            lowered = lowered | effect.lowered;
+            let effect = effect_at(task, at, e);
+            raised |= effect.raised;
+            lowered |= effect.lowered;
         }
     }
     Changes { raised, lowered }

@@ -2,6 +2,8 @@
 ghost use Rattle.std.specs.Prelude.{◌≡◌, ◌<◌};
 ghost use Rattle.step.specs.Facts.{has, holds};
 
+use task::facts::Literals;
+
 // Whether a set has a fact.
 pub(crate) fn has(set: u64, fact: u8) -> bool
     requires { fact < 64 }
@@ -11,10 +13,10 @@ pub(crate) fn has(set: u64, fact: u8) -> bool
 }
 
 // Whether a condition holds in a state: no fact that must be true is missing, and none that must be false is there.
-pub(crate) fn holds(state: u64, positive: u64, negative: u64) -> bool
-    ensures { result ≡ holds state (record { positive = positive; negative = negative }) }
+pub(crate) fn holds(state: u64, condition: Literals) -> bool
+    ensures { result ≡ holds state condition }
 {
-    let missing = positive ^ (positive & state);
-    let present = negative & state;
+    let missing = condition.positive & !state;
+    let present = condition.negative & state;
     missing | present == 0
 }

@@ -3,7 +3,7 @@
 // a number of steps in one call keeps it over the position's own frames.
 ghost use Rattle.std.specs.Prelude.{◌≡◌, ◌+◌, ◌*◌, ◌≤◌, ◌<◌, length};
 ghost use Rattle.task.specs.Index.{case_at};
-ghost use Rattle.step.specs.Head.{head_of, stored, starting_head, caller_of, jumped_head, advanced_head, pushed_head, popped_head, case_head, counted_head, moved_head, Fits};
+ghost use Rattle.step.specs.Head.{head_of, stored, left_by, starting_head, caller_of, jumped_head, advanced_head, pushed_head, popped_head, case_head, counted_head, moved_head, Fits};
 
 use crate::facts::has;
 use crate::position::{Frame, Position, frame_at, number};
@@ -12,7 +12,7 @@ use task::instruction::{Instruction, Line, Proc};
 
 // A position without the frames below its top one. The facts stand last, so that the compiler keeps each field as a value of its own; which
 // of them it keeps in registers goes by their order too.
-#[derive(Clone, Copy)]
+#[derive(Clone, Copy, Debug, PartialEq, Eq)]
 pub struct Head {
     pub procedure: Proc,
     pub line: Line,
@@ -28,9 +28,8 @@ impl Head {
         requires { first + 28 ≤ length task.now }
         ensures { result ≡ starting_head (case_at task.now first 0).start }
     {
-        let case = case_at(task, first, 0);
         Head {
-            facts: case.start,
+            facts: case_at(task, first, 0).start,
             steps: 0,
             case: 0,
             depth: 1,
@@ -44,9 +43,7 @@ impl Head {
         requires { position.depth ≤ 16 }
         ensures { result ≡ head_of position }
     {
-        let top = frame_at(position, position.depth);
-        let procedure = top.procedure;
-        let line = top.line;
+        let Frame { procedure, line } = frame_at(position, position.depth);
         Head {
             facts: position.facts,
             steps: position.steps,
@@ -63,20 +60,11 @@ impl Head {
         ensures { result ≡ stored before self position }
     {
         let mut frames = position.frames;
-        // A call leaves its own frame, to come back to; any other move a freed one, (0, 0).
-        let mut behind = Frame {
-            procedure: Proc(0),
-            line: Line(0),
+        frames[number(before.depth)] = before.left_behind(self.depth);
+        frames[number(self.depth)] = Frame {
+            procedure: self.procedure,
+            line: self.line,
         };
-        if before.depth < self.depth {
-            behind = before.caller();
-        }
-        let old = number(before.depth);
-        frames[old] = behind;
-        let new = number(self.depth);
-        let procedure = self.procedure;
-        let line = self.line;
-        frames[new] = Frame { procedure, line };
         Position {
             facts: self.facts,
             steps: self.steps,
@@ -86,22 +74,35 @@ impl Head {
         }
     }
 
+    // The frame that a move to a depth leaves in the stack: a call its own, at the line to come back to; any other move (0, 0), which stays if the frame
+    // is freed, and is else covered by the new top one.
+    #[tactic(auto, unfolding(crate::specs::Head::left_by, crate::specs::Position::origin))]
+    pub fn left_behind(self, depth: u8) -> Frame
+        requires { self.line.0 < 255 }
+        ensures { result ≡ left_by self depth }
+    {
+        if self.depth < depth {
+            return self.caller();
+        }
+        Frame::default()
+    }
+
     // The frame to come back to after a call.
     pub fn caller(self) -> Frame
         requires { self.line.0 < 255 }
         ensures { result ≡ caller_of self }
     {
-        let procedure = self.procedure;
-        let line = Line(self.line.0 + 1);
-        Frame { procedure, line }
+        Frame {
+            procedure: self.procedure,
+            line: Line(self.line.0 + 1),
+        }
     }
 
     // The top frame's line becomes another.
-    fn jumped(mut self, line: Line) -> Head
+    fn jumped(self, line: Line) -> Head
         ensures { result ≡ jumped_head self line }
     {
-        self.line = line;
-        self
+        Head { line, ..self }
     }
 
     // The top frame's line grows by 1.
@@ -118,12 +119,10 @@ impl Head {
         ensures { result ≡ pushed_head self procedure }
     {
         Head {
-            facts: self.facts,
-            steps: self.steps,
-            case: self.case,
             depth: self.depth + 1,
             procedure,
             line: Line(0),
+            ..self
         }
     }
 
@@ -132,15 +131,11 @@ impl Head {
         requires { 0 < self.depth }
         ensures { result ≡ popped_head self below }
     {
-        let procedure = below.procedure;
-        let line = below.line;
         Head {
-            facts: self.facts,
-            steps: self.steps,
-            case: self.case,
             depth: self.depth - 1,
-            procedure,
-            line,
+            procedure: below.procedure,
+            line: below.line,
+            ..self
         }
     }
 
@@ -150,11 +145,11 @@ impl Head {
     {
         Head {
             facts,
-            steps: self.steps,
             case,
             depth,
             procedure: Proc(0),
             line: Line(0),
+            ..self
         }
     }
 
@@ -173,19 +168,16 @@ impl Head {
     {
         self.steps += 1;
         match w {
-            Instruction::Empty => return self,
-            Instruction::Act(_) => {
-                self.facts = facts;
-                return self.advanced();
-            }
+            Instruction::Empty => self,
+            Instruction::Act(_) => Head { facts, ..self }.advanced(),
             // The next line if the fact is true, else the target.
             Instruction::Goto(target, fact) => {
                 if has(self.facts, fact) {
                     return self.advanced();
                 }
-                return self.jumped(target);
+                self.jumped(target)
             }
-            Instruction::Call(procedure) => return self.pushed(procedure),
+            Instruction::Call(procedure) => self.pushed(procedure),
             // With more than one frame a pop, else the next case or the finish.
             Instruction::End => {
                 if 1 < self.depth {
@@ -193,10 +185,10 @@ impl Head {
                 }
                 let next = self.case + 1;
                 if next < index.cases {
-                    let case = case_at(task, index.first, next);
-                    return self.next_case(next, 1, case.start);
+                    let start = case_at(task, index.first, next).start;
+                    return self.next_case(next, 1, start);
                 }
-                return self.next_case(next, 0, self.facts);
+                self.next_case(next, 0, self.facts)
             }
         }
     }

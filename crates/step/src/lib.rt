@@ -4,8 +4,8 @@
 pub mod effects;
 pub mod facts;
 pub mod head;
+pub mod held;
 pub mod perform;
 pub mod position;
 pub mod possible;
-pub mod questions;
 pub mod single;

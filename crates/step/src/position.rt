@@ -5,9 +5,9 @@ ghost use Rattle.step.specs.Position.{origin};
 
 use task::instruction::{Line, Proc};
 
-// A procedure and a line of it.
+// A procedure and a line of it; by default (0, 0).
 #[repr(C)]
-#[derive(Clone, Copy)]
+#[derive(Clone, Copy, Debug, Default, PartialEq, Eq)]
 pub struct Frame {
     pub procedure: Proc,
     pub line: Line,
@@ -15,7 +15,7 @@ pub struct Frame {
 
 // The stack is the first `depth` frames, the lowest first. In a possible position the others are (0, 0).
 #[repr(C)]
-#[derive(Clone, Copy)]
+#[derive(Clone, Copy, Debug, PartialEq, Eq)]
 pub struct Position {
     pub facts: u64,
     pub steps: u16,
@@ -29,10 +29,7 @@ pub(crate) fn number(depth: u8) -> usize
     requires { depth ≤ 16 }
     ensures { (result ≡ depth - 1) × (result < 16) }
 {
-    if depth == 0 {
-        return 0;
-    }
-    depth as usize - 1
+    (depth as usize).saturating_sub(1)
 }
 
 // The top frame at a depth.
@@ -40,6 +37,5 @@ pub(crate) fn frame_at(position: Position, depth: u8) -> Frame
     requires { depth ≤ 16 }
     ensures { result ≡ get_or position.frames (depth - 1) origin }
 {
-    let k = number(depth);
-    position.frames[k]
+    position.frames[number(depth)]
 }

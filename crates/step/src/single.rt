@@ -1,83 +1,74 @@
 // The single step of a caller's run: by value, and of the run record that the caller lends.
 ghost use Rattle.std.specs.Prelude.{◌≡◌};
-ghost use Rattle.step.specs.Ready.{Held, Lined};
+ghost use Rattle.task.specs.Verdict.{verdict};
+ghost use Rattle.step.specs.Perform.{stepped};
+ghost use Rattle.step.specs.Ready.{Lined};
 ghost use Rattle.step.specs.Single.{step_once, single_step};
 
-use crate::perform::{Stepped, run_line};
+use crate::held::HeldTask;
+use crate::perform::run_line;
 use crate::position::Position;
 use crate::possible::possible;
-use crate::questions::{POSSIBLE, STEPS};
-use task::index::Index;
 use task::program::check_program;
+use task::questions::Question;
 use task::reading::read_task;
-use task::verdict::Verdict;
+use task::refusal::Refusal;
 
 // The step of a task and a program that passed: question 31, the finish, question 14, one line.
 fn step_once(
-    bytes: &[u8],
-    index: Index,
-    offsets: &[usize; 64],
+    task: HeldTask,
     program: &[u8],
     position: Position,
-) -> Stepped
-    requires { Held bytes.now index offsets.now × Lined index program.now }
-    ensures { result ≡ step_once bytes.now index offsets.now program.now position }
+) -> Result<Option<Position>, Refusal>
+    requires { Lined task.index program.now }
+    ensures { stepped position result
+        ≡ step_once task.entry.bytes.now task.entry.index task.entry.offsets.now program.now position }
 {
-    if !possible(index, position) {
-        return Stepped {
-            verdict: Verdict::Refused {
-                question: POSSIBLE,
-                place: 0,
-            },
-            position,
-        };
+    if !possible(task.index, position) {
+        return Err(Question::RunImpossible.at(0));
     }
     if position.depth == 0 {
-        return Stepped {
-            verdict: Verdict::Accepted { value: 0 },
-            position,
-        };
+        return Ok(None);
     }
-    if index.bounds.steps <= position.steps {
-        return Stepped {
-            verdict: Verdict::Refused {
-                question: STEPS,
-                place: position.steps as usize,
-            },
-            position,
-        };
+    let place = position.steps as usize;
+    if task.index.bounds.steps <= position.steps {
+        return Err(Question::StepBound.at(place));
     }
-    run_line(bytes, index, offsets, program, position)
+    match run_line(task, program, position) {
+        Ok(next) => Ok(Some(next)),
+        Err(question) => Err(question.at(place)),
+    }
 }
 
-// Advances a run by one instruction: the answer, and the position after it, which on a refusal is the one that was given.
-pub fn single_step(task: &[u8], program: &[u8], position: Position) -> Stepped
-    ensures { result ≡ single_step task.now program.now position }
+// Advances a run by one instruction: the position after it, none for a finished run, or the first question that says no.
+pub fn single_step(
+    task: &[u8],
+    program: &[u8],
+    position: Position,
+) -> Result<Option<Position>, Refusal>
+    ensures { stepped position result ≡ single_step task.now program.now position }
 {
-    let reading = read_task(task);
-    let verdict = reading.verdict;
-    let Verdict::Accepted { value: _ } = verdict else {
-        return Stepped { verdict, position };
+    let layout = read_task(task)?;
+    check_program(layout.index, &layout.presets, program)?;
+    let held = HeldTask {
+        bytes: task,
+        index: layout.index,
+        offsets: &layout.offsets,
     };
-    let read = reading.layout;
-    let index = read.index;
-    let checked = check_program(index, &read.presets, program);
-    let Verdict::Accepted { value: _ } = checked else {
-        return Stepped {
-            verdict: checked,
-            position,
-        };
-    };
-    step_once(task, index, &read.offsets, program, position)
+    step_once(held, program, position)
 }
 
-// Advances the caller's own run record by one instruction: the answer. The record then has the next position; after a refusal, and when the run is
-// finished, it is as it was.
-pub fn step_in_place(task: &[u8], program: &[u8], run: &mut Position) -> Verdict
-    ensures { record { verdict = result; position = run.new }
+// Advances the caller's own run record by one instruction: how many steps that made, 1, or 0 for a finished run. The record then has the next position;
+// after a refusal, and when the run is finished, it is as it was.
+pub fn step_in_place(task: &[u8], program: &[u8], run: &mut Position) -> Result<usize, Refusal>
+    ensures { record { verdict = verdict result; position = run.new }
         ≡ single_step task.now program.now run.old }
 {
-    let stepped = single_step(task, program, *run);
-    *run = stepped.position;
-    stepped.verdict
+    match single_step(task, program, *run)? {
+        Some(next) => {
+            *run = next;
+            Ok(1)
+        }
+        None => Ok(0),
+    }
 }

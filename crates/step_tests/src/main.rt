@@ -11,362 +11,243 @@
 // after a call the number of steps made, and the whole position are written; after the call for a late case its number, its value and the whole buffer.
 #![tactic(auto)]
 
-ghost use Rattle.std.specs.Prelude.{◌+◌, ◌≤◌, length};
+ghost use Rattle.std.specs.Prelude.{◌≤◌, length};
 
 use checker::write::write_plan;
 use late_case::late::add_case;
-use records::numbers::{byte_at, eight_at, two_at};
+use records::numbers::{eight_at, two_at};
+use std::array;
 use std::io::{self, Read};
 use step::position::{Frame, Position};
 use step::single::single_step;
 use steps::many::many_steps;
 use task::facts::Literals;
-use task::index::{Index, case_at};
+use task::index::{Case, case_at};
 use task::instruction::{Line, Proc};
 use task::reading::read_task;
-use task::verdict::Verdict;
+use task::refusal::Refusal;
 
-// The most steps of a run beside its plan, and the bytes of such a plan: 9 for each step, and the closing record.
-const STEPS: usize = 100;
+// The bytes of a step's record.
+const STEP: usize = 9;
 
-const PLAN: usize = 904;
+// The bytes of the longest plan that a run is made beside: 100 steps, and the closing record.
+const PLAN: usize = 100 * STEP + 4;
 
-fn write(rt: &impl Print, text: &[u8]) -> io::Result<()> {
-    rt.write_all(text)
-}
-
-fn write_number(rt: &impl Print, label: &str, n: u64) -> io::Result<()> {
-    print!(rt; "{label}{n}")
-}
-
-fn write_verdict(rt: &impl Print, verdict: Verdict) -> io::Result<()> {
-    match verdict {
-        Verdict::Accepted { value } => write_number(rt, "0 ", value as u64),
-        Verdict::Refused { question, place } => {
-            write_number(rt, "", question as u64)?;
-            write_number(rt, " ", place as u64)
-        }
+// A yes has the number 0 and its value; a no has its question's number and its place.
+fn write_answer(rt: &impl Print, answer: Result<usize, Refusal>) -> io::Result<()> {
+    match answer {
+        Ok(value) => print!(rt; "0 {value}"),
+        Err(refusal) => print!(rt; "{refusal}"),
     }
-}
-
-fn write_frames(rt: &impl Print, frames: [Frame; 16]) -> io::Result<()> {
-    for k in 0..16 {
-        let frame = frames[k];
-        write_number(rt, " ", frame.procedure.0 as u64)?;
-        write_number(rt, ",", frame.line.0 as u64)?;
-    }
-    Ok(())
-}
-
-fn write_position(rt: &impl Print, position: Position) -> io::Result<()> {
-    write_number(rt, "; facts ", position.facts)?;
-    write_number(rt, " steps ", position.steps as u64)?;
-    write_number(rt, " case ", position.case as u64)?;
-    write_number(rt, " depth ", position.depth as u64)?;
-    write(rt, b";")?;
-    let frames = position.frames;
-    write_frames(rt, frames)?;
-    write(rt, b"\n")
-}
-
-// The sixteen frames of a request; (0, 0) where it has none.
-fn frames_of(bytes: &[u8]) -> [Frame; 16] {
-    let mut frames = [Frame {
-        procedure: Proc(0),
-        line: Line(0),
-    }; 16];
-    for k in 0..16 {
-        frames[k] = Frame {
-            procedure: Proc(byte_at(bytes, 12 + 2 * k)),
-            line: Line(byte_at(bytes, 13 + 2 * k)),
-        };
-    }
-    frames
-}
-
-fn position_of(bytes: &[u8]) -> Position
-    requires { 44 ≤ length bytes.now }
-{
-    let frames = frames_of(bytes);
-    Position {
-        facts: eight_at(bytes, 0),
-        steps: two_at(bytes, 8),
-        case: byte_at(bytes, 10),
-        depth: byte_at(bytes, 11),
-        frames,
-    }
-}
-
-// Makes one step, writes its answer, and gives the position after it.
-fn write_step(
-    rt: &impl Print,
-    task: &[u8],
-    program: &[u8],
-    position: Position,
-) -> io::Result<Position> {
-    let stepped = single_step(task, program, position);
-    let verdict = stepped.verdict;
-    let next = stepped.position;
-    write_verdict(rt, verdict)?;
-    write_position(rt, next)?;
-    Ok(next)
-}
-
-fn write_steps(
-    rt: &impl Print,
-    count: u16,
-    task: &[u8],
-    program: &[u8],
-    first: Position,
-) -> io::Result<()> {
-    let mut position = first;
-    for _ in 0..count {
-        position = write_step(rt, task, program, position)?;
-    }
-    Ok(())
-}
-
-// Makes one call for a number of steps, writes its answer, and gives the position after it.
-fn write_call(
-    rt: &impl Print,
-    task: &[u8],
-    program: &[u8],
-    number: u64,
-    position: Position,
-) -> io::Result<Position> {
-    let taken = many_steps(task, program, number, position);
-    let answer = taken.answer;
-    let verdict = answer.verdict;
-    let next = taken.position;
-    write_verdict(rt, verdict)?;
-    write_number(rt, " made ", answer.made as u64)?;
-    write_position(rt, next)?;
-    Ok(next)
-}
-
-fn write_calls(
-    rt: &impl Print,
-    numbers: &[u8],
-    task: &[u8],
-    program: &[u8],
-    first: Position,
-) -> io::Result<()> {
-    let mut position = first;
-    for k in 0..numbers.len() / 8 {
-        position = write_call(rt, task, program, eight_at(numbers, 8 * k), position)?;
-    }
-    Ok(())
-}
-
-// From the position of a request so many single steps, or, where there are numbers of steps, a call for each.
-fn write_request(rt: &impl Print, count: u16, numbers: &[u8], bytes: &[u8]) -> io::Result<()> {
-    if bytes.len() < 46 {
-        return Ok(());
-    }
-    let end = 46 + two_at(bytes, 44) as usize;
-    if bytes.len() < end {
-        return Ok(());
-    }
-    let task = &bytes[end..];
-    let program = &bytes[46..end];
-    let first = position_of(bytes);
-    write_steps(rt, count, task, program, first)?;
-    write_calls(rt, numbers, task, program, first)
-}
-
-fn write_calls_request(rt: &impl Print, bytes: &[u8]) -> io::Result<()> {
-    if bytes.len() < 2 {
-        return Ok(());
-    }
-    let end = 2 + 8 * (two_at(bytes, 0) as usize);
-    if bytes.len() < end {
-        return Ok(());
-    }
-    write_request(rt, 0, &bytes[2..end], &bytes[end..])
 }
 
 fn write_bytes(rt: &impl Print, bytes: &[u8]) -> io::Result<()> {
-    write(rt, b" [")?;
-    for k in 0..bytes.len() {
-        print!(rt; "{:02x}", byte_at(bytes, k))?;
+    print!(rt; " [")?;
+    for byte in bytes {
+        print!(rt; "{byte:02x}")?;
     }
-    write(rt, b"]\n")
+    println!(rt; "]")
 }
 
-// So many single steps on a task of `size` bytes that begins at `end` of a request, behind the program.
-fn write_on(rt: &impl Print, bytes: &[u8], end: usize, size: usize, run: Position) -> io::Result<()>
-    requires { 80 ≤ end }
+// Behind a count of 2 bytes so many units of a size, and what follows them, if they are all there.
+fn counted(bytes: &[u8], size: usize) -> Option<(&[u8], &[u8])>
+    requires { size ≤ 8 }
 {
-    if bytes.len() < end {
-        return Ok(());
-    }
-    if bytes.len() - end < size {
-        return Ok(());
-    }
-    let stop = end + size;
-    write_steps(
-        rt,
-        two_at(bytes, 0),
-        &bytes[end..stop],
-        &bytes[80..end],
-        run,
-    )
+    let (count, rest) = bytes.split_first_chunk::<2>()?;
+    rest.split_at_checked(size * (u16::from_le_bytes(*count) as usize))
 }
 
-// What is to be added to the task of a given length: a start and a goal.
+// The position that the first 44 bytes are.
+fn position_of(bytes: &[u8]) -> Position
+    requires { 44 ≤ length bytes.now }
+{
+    Position {
+        facts: eight_at(bytes, 0),
+        steps: two_at(bytes, 8),
+        case: bytes[10],
+        depth: bytes[11],
+        frames: array::from_fn(|k| Frame {
+            procedure: Proc(bytes[12 + 2 * k]),
+            line: Line(bytes[13 + 2 * k]),
+        }),
+    }
+}
+
+// A run of a program: its task, and how far it is.
 #[derive(Clone, Copy)]
-struct Late {
-    given: usize,
-    start: u64,
-    goal: Literals,
+struct Run<'a> {
+    task: &'a [u8],
+    program: &'a [u8],
+    position: Position,
 }
 
-fn late_of(bytes: &[u8]) -> Late
-    requires { 34 ≤ length bytes.now }
-{
-    Late {
-        given: eight_at(bytes, 2) as usize,
-        start: eight_at(bytes, 10),
-        goal: Literals {
-            positive: eight_at(bytes, 18),
-            negative: eight_at(bytes, 26),
-        },
+impl<'a> Run<'a> {
+    // A position, a program and a task, as a request has them.
+    fn of(bytes: &'a [u8]) -> Option<Run<'a>> {
+        let (position, files) = bytes.split_at_checked(44)?;
+        let (program, task) = counted(files, 1)?;
+        Some(Run {
+            task,
+            program,
+            position: position_of(position),
+        })
+    }
+
+    fn write_position(&self, rt: &impl Print) -> io::Result<()> {
+        let position = self.position;
+        print!(rt;
+            "; facts {} steps {} case {} depth {};",
+            position.facts, position.steps, position.case, position.depth
+        )?;
+        for frame in position.frames {
+            print!(rt; " {},{}", frame.procedure.0, frame.line.0)?;
+        }
+        println!(rt)
+    }
+
+    // Makes one step, and writes its answer and the position after it.
+    fn step(&mut self, rt: &impl Print) -> io::Result<()> {
+        match single_step(self.task, self.program, self.position) {
+            Ok(Some(next)) => {
+                self.position = next;
+                print!(rt; "0 1")?;
+            }
+            // The run is finished.
+            Ok(None) => print!(rt; "0 0")?,
+            Err(refusal) => print!(rt; "{refusal}")?,
+        }
+        self.write_position(rt)
+    }
+
+    fn steps(&mut self, rt: &impl Print, count: u16) -> io::Result<()> {
+        for _ in 0..count {
+            self.step(rt)?;
+        }
+        Ok(())
+    }
+
+    // Makes one call for a number of steps, and writes its answer and the position after it.
+    fn call(&mut self, rt: &impl Print, count: u64) -> io::Result<()> {
+        let taken = many_steps(self.task, self.program, count, self.position);
+        self.position = taken.position;
+        let made = taken.answer.made;
+        match taken.answer.refusal {
+            None => print!(rt; "0 {made}")?,
+            Some(refusal) => print!(rt; "{refusal}")?,
+        }
+        print!(rt; " made {made}")?;
+        self.write_position(rt)
     }
 }
 
-// Adds a case to the task in a buffer, and writes the answer and the buffer.
-fn write_late(
-    rt: &impl Print,
-    buffer: &mut [u8],
-    late: Late,
-    run: Position,
-) -> io::Result<Verdict> {
-    let verdict = add_case(buffer, late.given, late.start, late.goal, run);
-    write_verdict(rt, verdict)?;
-    write_bytes(rt, buffer)?;
-    Ok(verdict)
-}
-
-// Adds a case under the run of a request, and goes on with the run.
-fn write_late_request(rt: &impl Print, bytes: &mut [u8]) -> io::Result<()> {
-    if bytes.len() < 80 {
-        return Ok(());
-    }
-    let end = 80 + two_at(bytes, 78) as usize;
-    if bytes.len() < end {
-        return Ok(());
-    }
-    let late = late_of(bytes);
-    let run = position_of(&bytes[34..]);
-    let verdict = write_late(rt, &mut bytes[end..], late, run)?;
-    let Verdict::Accepted { value: size } = verdict else {
+// So many single steps from the position of a request.
+fn answer_steps(rt: &impl Print, count: u16, bytes: &[u8]) -> io::Result<()> {
+    let Some(mut run) = Run::of(bytes) else {
         return Ok(());
     };
-    write_on(rt, bytes, end, size, run)
+    run.steps(rt, count)
 }
 
-// Writes the step that a plan has at an offset: its line and its instruction's three bytes.
-fn write_planned(rt: &impl Print, plan: &[u8], at: usize) -> io::Result<()>
-    requires { at ≤ 900 }
-{
-    write_number(rt, "", byte_at(plan, at + 4) as u64)?;
-    write_number(rt, ",", byte_at(plan, at + 5) as u64)?;
-    write_number(rt, " ", byte_at(plan, at + 6) as u64)?;
-    write_number(rt, " ", byte_at(plan, at + 7) as u64)?;
-    write_number(rt, " ", byte_at(plan, at + 8) as u64)?;
-    write(rt, b": ")
-}
-
-// Makes as many single steps as a plan has, each beside the plan's own, and gives the position after them.
-fn write_run(
-    rt: &impl Print,
-    task: &[u8],
-    program: &[u8],
-    plan: &[u8],
-    steps: usize,
-    first: Position,
-) -> io::Result<Position>
-    requires { steps ≤ 100 }
-{
-    let mut position = first;
-    for k in 0..steps {
-        write_planned(rt, plan, 9 * k)?;
-        position = write_step(rt, task, program, position)?;
-    }
-    Ok(position)
-}
-
-// The first case's start, given where its record is.
-fn first_position(task: &[u8], at: usize) -> Position
-    requires { at + 28 ≤ length task.now }
-{
-    let first = case_at(task, at, 0);
-    let frames = frames_of(b"");
-    Position {
-        facts: first.start,
-        steps: 0,
-        case: 0,
-        depth: 1,
-        frames,
-    }
-}
-
-// The run beside a plan of so many steps, to the finish and one call beyond.
-fn write_to_the_finish(
-    rt: &impl Print,
-    task: &[u8],
-    program: &[u8],
-    plan: &[u8],
-    steps: usize,
-    index: Index,
-) -> io::Result<()>
-    requires { steps ≤ 100 }
-{
-    let at = index.first;
-    if task.len() < 28 {
+// The calls of a request, each for a number of steps.
+fn answer_calls(rt: &impl Print, bytes: &[u8]) -> io::Result<()> {
+    let Some((counts, rest)) = counted(bytes, 8) else {
         return Ok(());
-    }
-    // The first case's record is there in a task that passes.
-    if task.len() - 28 < at {
+    };
+    let Some(mut run) = Run::of(rest) else {
         return Ok(());
+    };
+    for count in counts.chunks_exact(8) {
+        run.call(rt, eight_at(count, 0))?;
     }
-    let last = write_run(rt, task, program, plan, steps, first_position(task, at))?;
-    if last.case == index.cases {
-        write(rt, b"finished: ")?;
-    } else {
-        write(rt, b"not finished: ")?;
-    }
-    write_step(rt, task, program, last)?;
     Ok(())
 }
 
-// The run of a program beside the plan that the writer gives.
-fn write_beside(rt: &impl Print, task: &[u8], program: &[u8]) -> io::Result<()> {
-    let mut plan = [0u8; PLAN];
-    let verdict = write_plan(task, program, &mut plan);
-    write(rt, b"writer ")?;
-    write_verdict(rt, verdict)?;
-    write(rt, b"\n")?;
-    let Verdict::Accepted { value: steps } = verdict else {
+// Adds a case under the run of a request, writes the answer and the buffer, and goes on with the run.
+fn answer_late(rt: &impl Print, bytes: &mut [u8]) -> io::Result<()> {
+    let Some((head, files)) = bytes.split_at_mut_checked(80) else {
         return Ok(());
     };
-    if STEPS < steps {
+    let Some((program, buffer)) = files.split_at_mut_checked(two_at(head, 78) as usize) else {
         return Ok(());
-    }
-    let reading = read_task(task);
-    let read = reading.layout;
-    write_to_the_finish(rt, task, program, &plan, steps, read.index)
+    };
+    let case = Case {
+        start: eight_at(head, 10),
+        goal: Literals {
+            positive: eight_at(head, 18),
+            negative: eight_at(head, 26),
+        },
+    };
+    let position = position_of(&head[34..]);
+    let answer = add_case(buffer, eight_at(head, 2) as usize, case, position);
+    write_answer(rt, answer)?;
+    write_bytes(rt, buffer)?;
+    let Ok(size) = answer else {
+        return Ok(());
+    };
+    let Some(task) = buffer.get(..size) else {
+        return Ok(());
+    };
+    let mut run = Run {
+        task,
+        program,
+        position,
+    };
+    run.steps(rt, two_at(head, 0))
 }
 
-fn write_run_request(rt: &impl Print, bytes: &[u8]) -> io::Result<()> {
-    if bytes.len() < 2 {
-        return Ok(());
+// The first case's start, given where its record is; in a task that passes it is there.
+fn first_position(task: &[u8], first: usize) -> Option<Position> {
+    if task.len() < 28 || task.len() - 28 < first {
+        return None;
     }
-    let end = 2 + two_at(bytes, 0) as usize;
-    if bytes.len() < end {
+    Some(Position {
+        facts: case_at(task, first, 0).start,
+        steps: 0,
+        case: 0,
+        depth: 1,
+        frames: [Frame::default(); 16],
+    })
+}
+
+// The run of a program beside the plan that the writer gives, to the finish and one call beyond.
+fn answer_run(rt: &impl Print, bytes: &[u8]) -> io::Result<()> {
+    let Some((program, task)) = counted(bytes, 1) else {
         return Ok(());
+    };
+    let mut plan = [0; PLAN];
+    let answer = write_plan(task, program, &mut plan);
+    print!(rt; "writer ")?;
+    write_answer(rt, answer)?;
+    println!(rt)?;
+    let Ok(steps) = answer else {
+        return Ok(());
+    };
+    // Where the writer says yes, the task passes.
+    let Ok(layout) = read_task(task) else {
+        return Ok(());
+    };
+    let Some(position) = first_position(task, layout.index.first) else {
+        return Ok(());
+    };
+    let mut run = Run {
+        task,
+        program,
+        position,
+    };
+    // Each step's line and its instruction's three bytes.
+    for record in plan.chunks_exact(STEP).take(steps) {
+        print!(rt;
+            "{},{} {} {} {}: ",
+            record[4], record[5], record[6], record[7], record[8]
+        )?;
+        run.step(rt)?;
     }
-    write_beside(rt, &bytes[end..], &bytes[2..end])
+    if run.position.case == layout.index.cases {
+        print!(rt; "finished: ")?;
+    } else {
+        print!(rt; "not finished: ")?;
+    }
+    run.step(rt)
 }
 
 // Reads a record's body and answers it.
@@ -378,11 +259,11 @@ fn answer_body(
 ) -> io::Result<()> {
     let _ = input.read_exact(body);
     match kind {
-        0 => write(rt, body),
-        65535 => write_run_request(rt, body),
-        65534 => write_calls_request(rt, body),
-        65533 => write_late_request(rt, body),
-        _ => write_request(rt, kind, b"", body),
+        0 => rt.write_all(body),
+        65535 => answer_run(rt, body),
+        65534 => answer_calls(rt, body),
+        65533 => answer_late(rt, body),
+        _ => answer_steps(rt, kind, body),
     }
 }
 

@@ -1,17 +1,27 @@
 -- A number of steps of a caller's run in one call: that many single steps, one after the other, and at most 4,096. They stop early at the finish and at
 -- a refusal. The questions up to 31 come first, even when the number is 0. The value is the number of steps made, which stands beside a refusal too,
 -- and the position is the one after the last step made, after a refusal too: this call alone may refuse and still have changed a position.
-use Rattle.std.specs.Prelude.{ℕ, zero, suc, ◌+◌, List, cond, eqb, ltb}
+use Rattle.std.specs.Prelude.{ℕ, zero, suc, ◌+◌, List, cond, eqb, ltb, Option, Some, None}
 use Rattle.task.specs.Program.{program_verdict}
-use Rattle.task.specs.Reading.{read_task}
-use Rattle.task.specs.declared.reading.Reading.{Reading}
-use Rattle.task.specs.declared.verdict.Verdict.{Verdict}
-use Rattle.task.specs.declared.verdict.Verdict.TheVariants.{Accepted, Refused}
+use Rattle.task.specs.Reading.{read_task, Reading}
+use Rattle.task.specs.Verdict.{Verdict, Accepted, Refused, number}
+use Rattle.task.specs.declared.refusal.Refusal.{Refusal}
 use Rattle.step.specs.Possible.{possible}
 use Rattle.step.specs.Questions.{POSSIBLE}
 use Rattle.step.specs.Single.{single_step}
 use Rattle.step.specs.declared.position.Position.{Position}
-use Rattle.steps.specs.declared.many.StepsTaken.{StepsTaken}
+use Rattle.steps.specs.declared.many.StepsAnswer as code_answer
+use Rattle.steps.specs.declared.many.StepsTaken as code
+
+-- what a call answers: its verdict, whose value is the number of steps made, and that number
+pub record StepsAnswer : Type 0 where
+  pub verdict : Verdict
+  pub made : ℕ
+
+-- a call's answer, and the position after the last step made
+pub record StepsTaken : Type 0 where
+  pub answer : StepsAnswer
+  pub position : Position
 
 -- a count above 4,096 counts as 4,096
 unfoldable pub capped : ℕ → ℕ
@@ -45,3 +55,16 @@ module _ (bytes program : List ℕ) where
   -- the call
   unfoldable pub many_steps : ℕ → Position → StepsTaken
   many_steps count s = many_on_reading count s (read_task bytes)
+
+-- the verdict of a call that has made so many steps: the refusal that ended it, if one did
+abbrev pub ended : ℕ → Option Refusal → Verdict
+ended made None = Accepted made
+ended made (Some r) = Refused (number r.question) r.place
+
+-- what the code's answer stands for
+abbrev pub answer_as : code_answer.StepsAnswer → StepsAnswer
+answer_as a = record { verdict = ended a.made a.refusal; made = a.made }
+
+-- and with the position
+abbrev pub taken_as : code.StepsTaken → StepsTaken
+taken_as t = record { answer = answer_as t.answer; position = t.position }

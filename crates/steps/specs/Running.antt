@@ -1,28 +1,36 @@
 -- What the functions below the entries require and give. Only their contracts cite it.
-use Rattle.std.specs.Prelude.{ℕ, ◌-◌, ◌≡◌, true, cond, List, length, set, eqb}
+use Rattle.std.specs.Prelude.{ℕ, ◌-◌, ◌≡◌, true, List, set, Result, Ok, Err}
+use Rattle.records.specs.Loop.{Turn, stop, go}
 use Rattle.task.specs.Program.{program_verdict}
 use Rattle.task.specs.Reading.{read_task}
 use Rattle.task.specs.declared.index.Index.{Index}
-use Rattle.task.specs.declared.verdict.Verdict.TheVariants.{Accepted, Refused}
+use Rattle.task.specs.declared.questions.Question.{Question}
+use Rattle.task.specs.declared.refusal.Refusal.{Refusal}
+use Rattle.task.specs.Verdict.{Accepted, Refused, number}
 use Rattle.step.specs.Head.{top_of}
 use Rattle.step.specs.Possible.{possible}
 use Rattle.step.specs.declared.head.Head.{Head}
 use Rattle.step.specs.declared.position.Frame.{Frame}
 use Rattle.step.specs.declared.position.Position.{Position}
-use Rattle.steps.specs.Many.{taken_to}
-use Rattle.steps.specs.declared.many.StepsTaken.{StepsTaken}
+use Rattle.steps.specs.Many.{StepsTaken, taken_to, taken_as}
+use Rattle.steps.specs.declared.many.StepsTaken as code
 
 -- the position of a head over its frames: the top one is the head's, whatever stands there
 unfoldable pub over : Head → List Frame → Position
 over h frames =
     record { facts = h.facts; steps = h.steps; case = h.case; depth = h.depth; frames = set frames (h.depth - 1) (top_of h) }
 
--- a call that stops at a position, `from` being the steps done before it: at the question that said no, or at none if that is 0
-unfoldable pub stopped_at : ℕ → ℕ → Position → StepsTaken
-stopped_at from question s =
-    let made = s.steps - from in taken_to (cond (eqb question 0) (Accepted made) (Refused question s.steps)) made s
+-- the step that the answer to it stands for, given the frames after it
+unfoldable pub advanced_as : List Frame → Result Head Question → Turn Position ℕ
+advanced_as frames (Err question) = stop (number question)
+advanced_as frames (Ok next) = go (over next frames)
 
--- a task and a program that passed, with the parts of the layout, and a possible position with all its frames
+-- what the answer to the questions up to 31, and the steps after them, stands for: at a refusal no step is made, and the position is as it was
+unfoldable pub asked_as : Position → Result code.StepsTaken Refusal → StepsTaken
+asked_as s (Ok t) = taken_as t
+asked_as s (Err r) = taken_to (Refused (number r.question) r.place) 0 s
+
+-- a task and a program that passed, with the parts of the layout, and a possible position
 pub record Admitted (bytes : List ℕ) (i : Index) (actions lines : List ℕ) (s : Position) : Type 0 where
   pub value : ℕ
   pub task : (read_task bytes).verdict ≡ Accepted value
@@ -31,4 +39,3 @@ pub record Admitted (bytes : List ℕ) (i : Index) (actions lines : List ℕ) (s
   pub checked : ℕ
   pub program : program_verdict i (read_task bytes).layout.presets lines ≡ Accepted checked
   pub possible : possible i s ≡ true
-  pub frames : length s.frames ≡ 16

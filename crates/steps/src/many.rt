@@ -1,164 +1,150 @@
 // A number of steps of a caller's run in one call: by value, and of the run record that the caller lends. The task is read once, and its questions, the
 // program's and the position's are asked once; what they showed holds after every step.
-ghost use Rattle.std.specs.Prelude.{◌≡◌, ◌≤◌, ◌<◌};
-ghost use Rattle.step.specs.Head.{left_by};
-ghost use Rattle.steps.specs.Many.{taken_to, steps_from, many_steps};
-ghost use Rattle.steps.specs.Running.{over, stopped_at, Admitted};
+ghost use Rattle.std.specs.Prelude.{◌≡◌, ◌≤◌, OnErr};
+ghost use Rattle.step.specs.Perform.{run_step};
+ghost use Rattle.step.specs.Ready.{Lined, Open};
+ghost use Rattle.steps.specs.Many.{steps_from, many_steps, answer_as, taken_as};
+ghost use Rattle.steps.specs.Running.{over, advanced_as, asked_as, Admitted};
 
 use step::head::Head;
-use step::perform::{Asked, ask};
+use step::held::HeldTask;
+use step::perform::ask;
 use step::position::{Frame, Position};
 use step::possible::possible;
-use step::questions::{POSSIBLE, STEPS};
-use task::index::Index;
-use task::instruction::{Line, Proc};
 use task::program::{check_program, line_instruction};
+use task::questions::Question;
 use task::reading::read_task;
-use task::verdict::Verdict;
+use task::refusal::Refusal;
 
 // The most steps of one call.
 const MOST: u16 = 4096;
 
-// What a call answers: its verdict, whose value is the number of steps made, and that number, which stands beside a refusal too.
-#[derive(Clone, Copy)]
+// What a call answers: how many steps were made, and the refusal that ended it, if one did.
+#[derive(Clone, Copy, Debug, PartialEq, Eq)]
 pub struct StepsAnswer {
-    pub verdict: Verdict,
     pub made: u16,
+    pub refusal: Option<Refusal>,
 }
 
 // A call's answer, and the position after the last step made, after a refusal too.
-#[derive(Clone, Copy)]
+#[derive(Clone, Copy, Debug, PartialEq, Eq)]
 pub struct StepsTaken {
     pub answer: StepsAnswer,
     pub position: Position,
 }
 
-// The frame that a move to a depth leaves in the stack: a call its own, at the line to come back to; any other move (0, 0), which stays if the frame
-// is freed, and is else covered by the new top one.
-fn left_behind(head: Head, depth: u8) -> Frame
-    requires { head.line.0 < 255 }
-    ensures { result ≡ left_by head depth }
+// One step at a position with a frame: question 14, those of the instruction on the top frame's line, and the head after it. `frames` are the position's,
+// the top one being the head's, whatever stands in its slot; there the frame that the move leaves behind is put.
+fn advance(
+    task: HeldTask,
+    program: &[u8],
+    head: Head,
+    frames: &mut [Frame; 16],
+) -> Result<Head, Question>
+    requires { Open task.index (over head frames.old) × Lined task.index program.now }
+    ensures step { advanced_as frames.new result
+        ≡ run_step task.entry.bytes.now task.entry.index task.entry.offsets.now program.now (over head frames.old) }
+    ensures refused { OnErr result (frames.new ≡ frames.old) }
 {
-    if head.depth < depth {
-        return head.caller();
+    if task.index.bounds.steps <= head.steps {
+        return Err(Question::StepBound);
     }
-    Frame {
-        procedure: Proc(0),
-        line: Line(0),
-    }
+    let w = line_instruction(task.index, program, head.procedure, head.line);
+    let facts = ask(task, head, w)?;
+    // The frame below the top one, at depth - 2; with one frame it is not looked at.
+    let below = frames[(head.depth as usize + 14) % 16];
+    let next = head.moved(task.bytes, task.index, below, facts, w);
+    frames[head.depth as usize - 1] = head.left_behind(next.depth);
+    Ok(next)
 }
 
-// The answer where a call stops, `from` being the steps done before it: at the question that said no, or at none if that is 0. The position is that of
-// the head over its frames.
-fn stopped(head: Head, frames: [Frame; 16], from: u16, question: u8) -> StepsTaken
-    requires { (head.depth ≤ 16) × (from ≤ head.steps) }
-    ensures { result ≡ stopped_at from question (over head frames) }
+// The position of a head over its frames.
+#[tactic(auto, unfolding(crate::specs::Running::over, step::specs::Head::top_of))]
+fn position_over(head: Head, mut frames: [Frame; 16]) -> Position
+    requires { head.depth ≤ 16 }
+    ensures { result ≡ over head frames }
 {
-    let mut frames = frames;
-    let top = if head.depth == 0 {
-        0
-    } else {
-        head.depth as usize - 1
+    frames[(head.depth as usize).saturating_sub(1)] = Frame {
+        procedure: head.procedure,
+        line: head.line,
     };
-    let procedure = head.procedure;
-    let line = head.line;
-    frames[top] = Frame { procedure, line };
-    let position = Position {
+    Position {
         facts: head.facts,
         steps: head.steps,
         case: head.case,
         depth: head.depth,
         frames,
-    };
-    let done = head.steps;
-    let made = done - from;
-    let verdict = if question == 0 {
-        Verdict::Accepted {
-            value: made as usize,
-        }
-    } else {
-        Verdict::Refused {
-            question,
-            place: done as usize,
-        }
-    };
-    let answer = StepsAnswer { verdict, made };
-    StepsTaken { answer, position }
+    }
 }
 
-// So many steps from a possible position, the task and the program having passed. The top frame is the head's, whatever stands in its slot of `frames`.
-fn run(
-    task: &[u8],
-    index: Index,
-    offsets: &[usize; 64],
-    program: &[u8],
-    wanted: u16,
-    first: Position,
-) -> StepsTaken
-    requires { Admitted task.now index offsets.now program.now first × (wanted ≤ 4096) }
-    ensures { result ≡ steps_from task.now program.now wanted 0 first }
+// So many steps from a possible position, the task and the program having passed.
+fn run(task: HeldTask, program: &[u8], wanted: u16, first: Position) -> StepsTaken
+    requires { Admitted task.bytes.now task.index task.offsets.now program.now first }
+    ensures { taken_as result ≡ steps_from task.entry.bytes.now program.now wanted 0 first }
 {
     let mut head = Head::of(first);
     let mut frames = first.frames;
-    let until = first.steps + wanted;
-    let mut question = 0;
-    while (question == 0) & (head.steps < until) & (0 < head.depth) {
-        if index.bounds.steps <= head.steps {
-            question = STEPS;
-        } else {
-            let w = line_instruction(index, program, head.procedure, head.line);
-            let asked = ask(task, index, offsets, head, w);
-            match asked {
-                Asked::No(number) => question = number,
-                Asked::Facts(facts) => {
-                    // The frame below the top one, at depth - 2; with one frame it is not looked at.
-                    let below = frames[(head.depth as usize + 14) % 16];
-                    let next = head.moved(task, index, below, facts, w);
-                    frames[head.depth as usize - 1] = left_behind(head, next.depth);
-                    head = next;
-                }
+    let mut refusal = None;
+    for _ in 0..wanted {
+        if head.depth == 0 {
+            break;
+        }
+        match advance(task, program, head, &mut frames) {
+            Ok(next) => head = next,
+            Err(question) => {
+                refusal = Some(question.at(head.steps as usize));
+                break;
             }
         }
     }
-    stopped(head, frames, first.steps, question)
+    StepsTaken {
+        answer: StepsAnswer {
+            made: head.steps - first.steps,
+            refusal,
+        },
+        position: position_over(head, frames),
+    }
 }
 
-// The answer of a call that a question up to 31 turns down: no step is made, and the position is as it was.
-fn refused(verdict: Verdict, position: Position) -> StepsTaken
-    ensures { result ≡ taken_to verdict 0 position }
+// The questions up to 31, and then the steps.
+fn asked_steps(
+    task: &[u8],
+    program: &[u8],
+    count: u64,
+    position: Position,
+) -> Result<StepsTaken, Refusal>
+    ensures { asked_as position result ≡ many_steps task.now program.now count position }
 {
-    let answer = StepsAnswer { verdict, made: 0 };
-    StepsTaken { answer, position }
+    let layout = read_task(task)?;
+    check_program(layout.index, &layout.presets, program)?;
+    if !possible(layout.index, position) {
+        return Err(Question::RunImpossible.at(0));
+    }
+    let held = HeldTask {
+        bytes: task,
+        index: layout.index,
+        offsets: &layout.offsets,
+    };
+    let wanted = count.min(u64::from(MOST)) as u16;
+    Ok(run(held, program, wanted, position))
 }
 
 // Advances a run by a number of instructions, at most 4,096: the answer, and the position after the last one that was run.
+#[tactic(auto, unfolding(crate::specs::Many::taken_to, crate::specs::Running::asked_as))]
 pub fn many_steps(task: &[u8], program: &[u8], count: u64, position: Position) -> StepsTaken
-    ensures { result ≡ many_steps task.now program.now count position }
+    ensures { taken_as result ≡ many_steps task.now program.now count position }
 {
-    let reading = read_task(task);
-    let verdict = reading.verdict;
-    let Verdict::Accepted { value: _ } = verdict else {
-        return refused(verdict, position);
-    };
-    let read = reading.layout;
-    let index = read.index;
-    let checked = check_program(index, &read.presets, program);
-    let Verdict::Accepted { value: _ } = checked else {
-        return refused(checked, position);
-    };
-    if !possible(index, position) {
-        let impossible = Verdict::Refused {
-            question: POSSIBLE,
-            place: 0,
-        };
-        return refused(impossible, position);
+    match asked_steps(task, program, count, position) {
+        Ok(taken) => taken,
+        // No step is made, and the position is as it was.
+        Err(refusal) => StepsTaken {
+            answer: StepsAnswer {
+                made: 0,
+                refusal: Some(refusal),
+            },
+            position,
+        },
     }
-    let wanted = if count < MOST as u64 {
-        count as u16
-    } else {
-        MOST
-    };
-    run(task, index, &read.offsets, program, wanted, position)
 }
 
 // Advances the caller's own run record by a number of instructions, at most 4,096: the answer. The record then has the position after the last one
@@ -169,7 +155,7 @@ pub fn many_steps_in_place(
     count: u64,
     run: &mut Position,
 ) -> StepsAnswer
-    ensures { record { answer = result; position = run.new }
+    ensures { record { answer = answer_as result; position = run.new }
         ≡ many_steps task.now program.now count run.old }
 {
     let taken = many_steps(task, program, count, *run);

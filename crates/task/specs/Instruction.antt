@@ -1,5 +1,5 @@
 -- Instructions: three bytes op, p, q, the instruction that they spell, and the lines on which it is allowed.
-use Rattle.std.specs.Prelude.{ℕ, ◌+◌, List, [], ◌∷◌, Bool, true, false, cond, ◌&&◌, set, leb, ltb, eqb}
+use Rattle.std.specs.Prelude.{ℕ, ◌+◌, List, [], ◌∷◌, Bool, true, false, cond, ◌&&◌, set, leb, ltb, eqb, Option, Some, None}
 use Rattle.records.specs.Numbers.{byte_at}
 use Rattle.task.specs.declared.bounds.Bounds.{Bounds}
 use Rattle.task.specs.declared.instruction.Line.{Line}
@@ -7,28 +7,26 @@ use Rattle.task.specs.declared.instruction.Proc.{Proc}
 use Rattle.task.specs.declared.instruction.Triple.{Triple}
 use Rattle.task.specs.declared.instruction.Instruction.{Instruction}
 use Rattle.task.specs.declared.instruction.Instruction.TheVariants.{Empty, Act, Goto, Call, End}
-use Rattle.task.specs.declared.instruction.Decoded.{Decoded}
-use Rattle.task.specs.declared.instruction.Decoded.TheVariants.{Is, Nothing}
 
 -- an answer kept where a condition holds
-unfoldable pub keep : Bool → Decoded → Decoded
+unfoldable pub keep : Bool → Option Instruction → Option Instruction
 keep true d = d
-keep false d = Nothing
+keep false d = None
 
 -- the instruction of an answer, empty where there is none
-abbrev pub or_empty : Decoded → Instruction
-or_empty (Is w) = w
-or_empty Nothing = Empty
+abbrev pub or_empty : Option Instruction → Instruction
+or_empty (Some w) = w
+or_empty None = Empty
 
 -- the instruction that three bytes spell, whatever the line. There is none for an op above 4, nor where p or q has to be 0 and is not
-unfoldable pub spelled : Triple → Decoded
+unfoldable pub spelled : Triple → Option Instruction
 spelled w =
-    cond (eqb w.op 0) (keep (eqb w.p 0 && eqb w.q 0) (Is Empty))
-    (cond (eqb w.op 1) (keep (eqb w.q 0) (Is (Act w.p)))
-    (cond (eqb w.op 2) (Is (Goto (record { 0 = w.p }) w.q))
-    (cond (eqb w.op 3) (keep (eqb w.q 0) (Is (Call (record { 0 = w.p }))))
-    (cond (eqb w.op 4) (keep (eqb w.p 0 && eqb w.q 0) (Is End))
-    Nothing))))
+    cond (eqb w.op 0) (keep (eqb w.p 0 && eqb w.q 0) (Some Empty))
+    (cond (eqb w.op 1) (keep (eqb w.q 0) (Some (Act w.p)))
+    (cond (eqb w.op 2) (Some (Goto (record { 0 = w.p }) w.q))
+    (cond (eqb w.op 3) (keep (eqb w.q 0) (Some (Call (record { 0 = w.p }))))
+    (cond (eqb w.op 4) (keep (eqb w.p 0 && eqb w.q 0) (Some End))
+    None))))
 
 -- whether an instruction is allowed on a line of a task with these bounds and so many actions: only empty and end may stand on the
 -- last line, an end not on line 0, nothing above n; and each operand is in its range
@@ -40,16 +38,16 @@ allowed b actions line (Call procedure) = ltb line.0 b.last && ltb procedure.0 b
 allowed b actions line End = leb 1 line.0 && leb line.0 b.last
 
 -- an instruction where it is allowed on the line
-unfoldable pub where_allowed : Bounds → ℕ → Line → Decoded → Decoded
-where_allowed b actions line (Is w) = keep (allowed b actions line w) (Is w)
-where_allowed b actions line Nothing = Nothing
+unfoldable pub where_allowed : Bounds → ℕ → Line → Option Instruction → Option Instruction
+where_allowed b actions line (Some w) = keep (allowed b actions line w) (Some w)
+where_allowed b actions line None = None
 
 -- three bytes on a line: the instruction that they spell, if it is allowed there
-unfoldable pub decode : Bounds → ℕ → Line → Triple → Decoded
+unfoldable pub decode : Bounds → ℕ → Line → Triple → Option Instruction
 decode b actions line w = where_allowed b actions line (spelled w)
 
 -- questions 7 and 15: three bytes for a line of a procedure, the procedure below b, the instruction allowed there and not empty
-unfoldable pub decode_for : Bounds → ℕ → Proc → Line → Triple → Decoded
+unfoldable pub decode_for : Bounds → ℕ → Proc → Line → Triple → Option Instruction
 decode_for b actions procedure line w = keep (ltb procedure.0 b.procedures && ltb 0 w.op) (decode b actions line w)
 
 -- the three bytes of an instruction

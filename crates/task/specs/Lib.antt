@@ -3,6 +3,7 @@ pub mod Facts
 pub mod First
 pub mod Index
 pub mod Instruction
+pub mod Kind
 pub mod Outcome
 pub mod Program
 pub mod Questions

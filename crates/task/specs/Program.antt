@@ -1,6 +1,6 @@
 -- A program is 3 bytes for each line 0 to n of each procedure, in order; line i of procedure j begins at 3 * (j * (n + 1) + i).
 -- Questions 25 to 27 are the program's own.
-use Rattle.std.specs.Prelude.{ℕ, ◌+◌, ◌*◌, ◌%◌, List, Bool, true, false, cond, ◌&&◌, ◌||◌, length, ltb, eqb}
+use Rattle.std.specs.Prelude.{ℕ, ◌+◌, ◌*◌, ◌%◌, List, Bool, true, false, cond, ◌&&◌, ◌||◌, length, ltb, eqb, Option, Some, None}
 use Rattle.task.specs.Bounds.{line_count, program_size}
 use Rattle.task.specs.First.{first_no}
 use Rattle.task.specs.Instruction.{or_empty, spelled, decode, triple_at}
@@ -11,10 +11,7 @@ use Rattle.task.specs.declared.instruction.Line.{Line}
 use Rattle.task.specs.declared.instruction.Proc.{Proc}
 use Rattle.task.specs.declared.instruction.Triple.{Triple}
 use Rattle.task.specs.declared.instruction.Instruction.{Instruction}
-use Rattle.task.specs.declared.instruction.Decoded.{Decoded}
-use Rattle.task.specs.declared.instruction.Decoded.TheVariants.{Is, Nothing}
-use Rattle.task.specs.declared.verdict.Verdict.{Verdict}
-use Rattle.task.specs.declared.verdict.Verdict.TheVariants.{Accepted, Refused}
+use Rattle.task.specs.Verdict.{Verdict, Accepted, Refused}
 
 -- where a line of a procedure begins
 unfoldable pub line_offset : Bounds → Proc → Line → ℕ
@@ -25,7 +22,7 @@ abbrev pub line_bytes : Bounds → List ℕ → Proc → Line → Triple
 line_bytes b program procedure line = triple_at program (line_offset b procedure line)
 
 -- the instruction on a line of a procedure, if the line's three bytes spell one that is allowed there
-unfoldable pub instruction_on : Index → List ℕ → Proc → Line → Decoded
+unfoldable pub instruction_on : Index → List ℕ → Proc → Line → Option Instruction
 instruction_on i program procedure line = decode i.bounds i.actions line (line_bytes i.bounds program procedure line)
 
 -- the instruction that they spell, allowed there or not; empty where they spell none
@@ -33,9 +30,9 @@ unfoldable pub spelled_on : Bounds → List ℕ → Proc → Line → Instructio
 spelled_on b program procedure line = or_empty (spelled (line_bytes b program procedure line))
 
 -- whether three bytes decoded to an instruction
-unfoldable pub is_instruction : Decoded → Bool
-is_instruction (Is w) = true
-is_instruction Nothing = false
+unfoldable pub is_instruction : Option Instruction → Bool
+is_instruction (Some w) = true
+is_instruction None = false
 
 -- question 26 on line number k of the program, counted through all procedures: it is line k % (n + 1) of its procedure
 unfoldable pub line_allowed : Index → List ℕ → ℕ → Bool

@@ -1,11 +1,10 @@
 -- A task file to its verdict and what it says. The records are read one after the other, each asked questions 1 to 9 in their order; the
 -- first no ends the reading, with the record's offset as the place (for 9 the offset after the closing record).
-use Rattle.std.specs.Prelude.{ℕ, ◌+◌, ◌-◌, ◌/◌, ◌%◌, List, Bool, cond, ◌&&◌, length, set, replicate, leb, ltb, eqb}
+use Rattle.std.specs.Prelude.{ℕ, ◌+◌, ◌-◌, ◌/◌, ◌%◌, List, Bool, cond, ◌&&◌, length, set, replicate, leb, ltb, eqb, Option, Some, None, Result, Ok, Err}
 use Rattle.records.specs.Loop.{Turn, stop, go, ask, loop}
 use Rattle.records.specs.Numbers.{byte_at, u64_at}
 use Rattle.records.specs.Record.{record_at}
-use Rattle.records.specs.declared.record.Found.{Found}
-use Rattle.records.specs.declared.record.Found.TheVariants.{Record, Missing}
+use Rattle.records.specs.declared.record.Record.{Record}
 use Rattle.task.specs.Bounds.{bounds_at, between, in_range}
 use Rattle.task.specs.Facts.{literals_at, case_consistent, pairs_before_fault_at}
 use Rattle.task.specs.Instruction.{decode_for, encode, triple_at, with_triple}
@@ -13,13 +12,16 @@ use Rattle.task.specs.Program.{line_offset}
 use Rattle.task.specs.Questions.{WHOLE, KIND, LENGTH, COUNT, BOUNDS, SETS, PRESET, REPEATED, CLOSED}
 use Rattle.task.specs.declared.index.Index.{Index}
 use Rattle.task.specs.declared.index.Layout.{Layout}
-use Rattle.task.specs.declared.instruction.Decoded.{Decoded}
-use Rattle.task.specs.declared.instruction.Decoded.TheVariants.{Is, Nothing}
+use Rattle.task.specs.declared.instruction.Instruction.{Instruction}
 use Rattle.task.specs.declared.instruction.Line.{Line}
 use Rattle.task.specs.declared.instruction.Proc.{Proc}
-use Rattle.task.specs.declared.reading.Progress.{Progress}
-use Rattle.task.specs.declared.reading.Reading.{Reading}
-use Rattle.task.specs.declared.verdict.Verdict.TheVariants.{Accepted, Refused}
+use Rattle.task.specs.Verdict.{Verdict, Accepted, Refused, number}
+use Rattle.task.specs.declared.refusal.Refusal.{Refusal}
+
+-- a task's verdict, and where the task stands; `no_layout` where it is turned down
+pub record Reading : Type 0 where
+  pub verdict : Verdict
+  pub layout : Layout
 
 -- the index of no task: all zeros
 unfoldable pub no_index : Index
@@ -29,8 +31,13 @@ no_index = record { bounds = record { facts = 0; procedures = 0; last = 0; stack
 unfoldable pub no_layout : Layout
 no_layout = record { index = no_index; offsets = replicate 64 0; presets = replicate 768 0 }
 
--- where the reading stands: how far it is (the next record's offset, the kind of the record before it, 0 at the start, and the index so far); the
--- actions' offsets so far, 64 places; the preset program so far, 768 bytes
+-- how far the reading is: the next record's offset, the kind of the record before it, 0 at the start, and the index so far
+pub record Progress : Type 0 where
+  pub at : ℕ
+  pub last : ℕ
+  pub index : Index
+
+-- where the reading stands: how far it is; the actions' offsets so far, 64 places; the preset program so far, 768 bytes
 pub record State : Type 0 where
   pub progress : Progress
   pub offsets : List ℕ
@@ -106,9 +113,9 @@ module _ (bytes : List ℕ) (s : State) (body : ℕ) where
   preset_line = record { 0 = byte_at bytes (body + 1) }
 
   -- a preset whose instruction is decoded: question 7, then 8; the instruction is noted on its line
-  unfoldable pub on_preset : ℕ → Decoded → Turn State Reading
-  on_preset next Nothing = stop (refused PRESET at)
-  on_preset next (Is w) =
+  unfoldable pub on_preset : ℕ → Option Instruction → Turn State Reading
+  on_preset next None = stop (refused PRESET at)
+  on_preset next (Some w) =
       ask (eqb (byte_at s.presets (line_offset index.bounds preset_proc preset_line)) 0) (refused REPEATED at)
       (go
       (record {
@@ -161,11 +168,11 @@ kind_turn bytes s kind body size next =
     (close_turn bytes s next)
 
 -- what stands at the reading's offset: question 1, then 2 and 3, then what the kind asks
-unfoldable pub on_record : List ℕ → State → Found → Turn State Reading
-on_record bytes s Missing = stop (refused WHOLE s.progress.at)
-on_record bytes s (Record kind body size next) =
-    ask (may_stand s.progress.last kind) (refused KIND s.progress.at)
-    (ask (length_fits kind size) (refused LENGTH s.progress.at) (kind_turn bytes s kind body size next))
+unfoldable pub on_record : List ℕ → State → Option Record → Turn State Reading
+on_record bytes s None = stop (refused WHOLE s.progress.at)
+on_record bytes s (Some r) =
+    ask (may_stand s.progress.last r.kind) (refused KIND s.progress.at)
+    (ask (length_fits r.kind r.length) (refused LENGTH s.progress.at) (kind_turn bytes s r.kind r.body r.length r.next))
 
 -- one turn of the reading
 unfoldable pub turn_of : List ℕ → State → Turn State Reading
@@ -178,3 +185,8 @@ left bytes s = length bytes - s.progress.at
 -- a task file: its records from the first byte on. Every record has at least four bytes, so the loop never runs out of turns
 unfoldable pub read_task : List ℕ → Reading
 read_task bytes = loop (turn_of bytes) (left bytes) (refused WHOLE 0) begin
+
+-- what the code's answer on a task file stands for
+unfoldable pub reading : Result Layout Refusal → Reading
+reading (Ok layout) = accepted layout
+reading (Err r) = refused (number r.question) r.place

@@ -5,7 +5,7 @@ ghost use Rattle.task.specs.Bounds.{in_range, bounds_at, line_count};
 use records::numbers::two_at;
 
 // Facts F, procedures b, last line n, stack bound m and step bound S.
-#[derive(Clone, Copy)]
+#[derive(Clone, Copy, Debug, Default, PartialEq, Eq)]
 pub struct Bounds {
     pub facts: u8,
     pub procedures: u8,

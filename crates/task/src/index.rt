@@ -8,7 +8,7 @@ use crate::facts::{Literals, literals_at};
 use records::numbers::{eight_at, two_at};
 
 // The bounds, how many actions and cases there are, and the offset of the first case.
-#[derive(Clone, Copy)]
+#[derive(Clone, Copy, Debug, Default, PartialEq, Eq)]
 pub struct Index {
     pub bounds: Bounds,
     pub actions: u8,
@@ -25,14 +25,14 @@ pub struct Layout {
 }
 
 // What stands before an action's effects: its precondition, and how many effects there are.
-#[derive(Clone, Copy)]
+#[derive(Clone, Copy, Debug, PartialEq, Eq)]
 pub struct ActionFront {
     pub precondition: Literals,
     pub effects: u16,
 }
 
 // A conditional effect: where the condition holds, facts are raised and lowered.
-#[derive(Clone, Copy)]
+#[derive(Clone, Copy, Debug, PartialEq, Eq)]
 pub struct Effect {
     pub condition: Literals,
     pub raised: u64,
@@ -40,7 +40,7 @@ pub struct Effect {
 }
 
 // A case: the facts true at its start, and its goal.
-#[derive(Clone, Copy)]
+#[derive(Clone, Copy, Debug, PartialEq, Eq)]
 pub struct Case {
     pub start: u64,
     pub goal: Literals,

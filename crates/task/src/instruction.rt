@@ -2,29 +2,29 @@
 ghost use Rattle.std.specs.Prelude.{◌≡◌, true, ◌+◌, ◌≤◌, length};
 ghost use Rattle.task.specs.Instruction.{spelled, decode, decode_for, triple_at, with_triple};
 ghost use Rattle.task.specs.Program.{is_instruction};
-ghost use Rattle.task.specs.declared.instruction.Decoded.TheVariants.{Is};
 
 use crate::bounds::Bounds;
 
 // A procedure's number.
 #[repr(C)]
-#[derive(Clone, Copy)]
+#[derive(Clone, Copy, Debug, Default, PartialEq, Eq)]
 pub struct Proc(pub u8);
 
 // A line's number in its procedure.
 #[repr(C)]
-#[derive(Clone, Copy)]
+#[derive(Clone, Copy, Debug, Default, PartialEq, Eq)]
 pub struct Line(pub u8);
 
 // An instruction's three bytes.
-#[derive(Clone, Copy)]
+#[derive(Clone, Copy, Debug, PartialEq, Eq)]
 pub struct Triple {
     pub op: u8,
     pub p: u8,
     pub q: u8,
 }
 
-#[derive(Clone, Copy)]
+// What a line says.
+#[derive(Clone, Copy, Debug, PartialEq, Eq)]
 pub enum Instruction {
     // No instruction.
     Empty,
@@ -36,13 +36,6 @@ pub enum Instruction {
     Call(Proc),
     // Ends the procedure.
     End,
-}
-
-// Three bytes on a line: an instruction that is allowed there, or none.
-#[derive(Clone, Copy)]
-pub enum Decoded {
-    Is(Instruction),
-    Nothing,
 }
 
 // Whether three bytes spell an instruction that is allowed on a line: by op, each with the range of its lines and of its operands.
@@ -75,7 +68,7 @@ pub fn decodes_for(b: Bounds, actions: u8, procedure: Proc, line: Line, w: Tripl
 // The instruction that three bytes spell, where they spell one.
 pub fn spelled(w: Triple) -> Instruction
     requires { is_instruction (spelled w) ≡ true }
-    ensures { spelled w ≡ Is result }
+    ensures { spelled w ≡ Some result }
 {
     let op = w.op;
     match op {
@@ -88,13 +81,13 @@ pub fn spelled(w: Triple) -> Instruction
 }
 
 // The instruction that three bytes spell, if it is allowed on the line.
-pub fn decode(b: Bounds, actions: u8, line: Line, w: Triple) -> Decoded
+pub fn decode(b: Bounds, actions: u8, line: Line, w: Triple) -> Option<Instruction>
     ensures { result ≡ decode b actions line w }
 {
     if decodes(b, actions, line, w) {
-        return Decoded::Is(spelled(w));
+        return Some(spelled(w));
     }
-    Decoded::Nothing
+    None
 }
 
 // The three bytes at an offset; they are all there.

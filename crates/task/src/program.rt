@@ -1,14 +1,15 @@
 // A program's own questions: its length, its lines and its presets.
 ghost use Rattle.std.specs.Prelude.{◌≡◌, ◌+◌, ◌*◌, ◌≤◌, true, length};
 ghost use Rattle.task.specs.First.{first_no};
+ghost use Rattle.task.specs.Verdict.{passed};
 ghost use Rattle.task.specs.Program.{line_offset, instruction_on, is_instruction, line_allowed, preset_held, program_verdict};
-ghost use Rattle.task.specs.declared.instruction.Decoded.TheVariants.{Is};
 
 use crate::bounds::{Bounds, line_count};
 use crate::index::Index;
-use crate::instruction::{Instruction, Line, Proc, decodes, spelled, triple_at};
-use crate::questions::{PROGRAM_LENGTH, PROGRAM_LINES, PROGRAM_PRESETS};
-use crate::verdict::Verdict;
+use crate::instruction::{Instruction, Line, Proc, Triple, decodes, spelled, triple_at};
+use crate::questions::Question;
+use crate::refusal::Refusal;
+use crate::search::first_no;
 use records::numbers::byte_at;
 
 // Where a line of a procedure begins in a program.
@@ -22,7 +23,7 @@ pub fn line_offset(b: Bounds, procedure: Proc, line: Line) -> usize
 pub fn line_instruction(index: Index, program: &[u8], procedure: Proc, line: Line) -> Instruction
     requires { (line_offset index.bounds procedure line + 3 ≤ length program.now)
         × (is_instruction (instruction_on index program.now procedure line) ≡ true) }
-    ensures { instruction_on index program.now procedure line ≡ Is result }
+    ensures { instruction_on index program.now procedure line ≡ Some result }
 {
     spelled(triple_at(program, line_offset(index.bounds, procedure, line)))
 }
@@ -37,35 +38,33 @@ fn preset_held(presets: &[u8], program: &[u8], k: usize) -> bool
     if op == 0 {
         return true;
     }
-    let w = triple_at(program, at);
-    (op == w.op) & (byte_at(presets, at + 1) == w.p) & (byte_at(presets, at + 2) == w.q)
+    let preset = Triple {
+        op,
+        p: byte_at(presets, at + 1),
+        q: byte_at(presets, at + 2),
+    };
+    preset == triple_at(program, at)
 }
 
-// How many lines stand before the first that question 26 turns down.
+// How many lines stand before the first that question 26 turns down. The line's number in its procedure is counted along, which spares a division for each
+// line; a closure that counts would leave the proof nothing of what it returned.
 fn allowed_lines(index: Index, count: usize, program: &[u8]) -> usize
     requires { 3 * count ≤ length program.now }
     ensures { result ≡ first_no (line_allowed index program.now) count }
 {
-    let mut k = 0;
     let mut line = 0;
-    while k < count {
-        if decodes(
-            index.bounds,
-            index.actions,
-            Line(line),
-            triple_at(program, 3 * k),
-        ) {
-            k += 1;
-            line = if line < index.bounds.last {
-                line + 1
-            } else {
-                0
-            };
-        } else {
+    for k in 0..count {
+        let w = triple_at(program, 3 * k);
+        if !decodes(index.bounds, index.actions, Line(line), w) {
             return k;
         }
+        line = if line < index.bounds.last {
+            line + 1
+        } else {
+            0
+        };
     }
-    k
+    count
 }
 
 // How many lines stand before the first that question 27 turns down.
@@ -73,41 +72,24 @@ fn held_presets(count: usize, presets: &[u8], program: &[u8]) -> usize
     requires { 3 * count ≤ length program.now }
     ensures { result ≡ first_no (preset_held presets.now program.now) count }
 {
-    let mut k = 0;
-    while k < count {
-        if preset_held(presets, program, k) {
-            k += 1;
-        } else {
-            return k;
-        }
-    }
-    k
+    first_no(count, |k| preset_held(presets, program, k))
 }
 
 // Questions 25 to 27, of a program for a task that passed with this index and these presets.
-pub fn check_program(index: Index, presets: &[u8], program: &[u8]) -> Verdict
-    ensures { result ≡ program_verdict index presets.now program.now }
+pub fn check_program(index: Index, presets: &[u8], program: &[u8]) -> Result<(), Refusal>
+    ensures { passed result ≡ program_verdict index presets.now program.now }
 {
     let count = line_count(index.bounds) as usize;
     if program.len() != 3 * count {
-        return Verdict::Refused {
-            question: PROGRAM_LENGTH,
-            place: 0,
-        };
+        return Err(Question::ProgramLength.at(0));
     }
     let allowed = allowed_lines(index, count, program);
     if allowed < count {
-        return Verdict::Refused {
-            question: PROGRAM_LINES,
-            place: 3 * allowed,
-        };
+        return Err(Question::ProgramInstruction.at(3 * allowed));
     }
     let held = held_presets(count, presets, program);
     if held < count {
-        return Verdict::Refused {
-            question: PROGRAM_PRESETS,
-            place: 3 * held,
-        };
+        return Err(Question::ProgramPreset.at(3 * held));
     }
-    Verdict::Accepted { value: 0 }
+    Ok(())
 }

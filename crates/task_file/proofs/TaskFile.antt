@@ -7,11 +7,10 @@ use mathlib.Core.List.{List, []}
 use lib.ListN.{length}
 use Rattle.records.specs.Numbers.{AreBytes}
 use Rattle.records.specs.Record.{closing}
-use Rattle.task.specs.Reading.{accepted, read_task}
+use Rattle.task.specs.Reading.{Reading, accepted, read_task}
 use Rattle.task.specs.Task.{Task}
 use Rattle.task.specs.TaskAt.{task_at, task_of}
-use Rattle.task.specs.declared.reading.Reading.{Reading}
-use Rattle.task.specs.declared.verdict.Verdict.TheVariants.{Accepted}
+use Rattle.task.specs.Verdict.{Accepted}
 use Rattle.task.proofs.Laws.Bounds.{ranges}
 use Rattle.task_file.specs.Bytes.{action_record, preset_record, case_record, task_bytes}
 use Rattle.task_file.specs.TaskFile.{Means, TaskFile, AcceptedFile, OneTask, PresetProgram}

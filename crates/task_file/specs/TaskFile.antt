@@ -7,11 +7,11 @@ use Rattle.task.specs.Program.{line_bytes}
 use Rattle.task.specs.Reading.{read_task}
 use Rattle.task.specs.Task.{Preset, Task}
 use Rattle.task.specs.TaskAt.{task_of}
+use Rattle.task.specs.Verdict.{Accepted}
 use Rattle.task.specs.declared.bounds.Bounds.{Bounds}
 use Rattle.task.specs.declared.instruction.Instruction.TheVariants.{Empty}
 use Rattle.task.specs.declared.instruction.Line.{Line}
 use Rattle.task.specs.declared.instruction.Proc.{Proc}
-use Rattle.task.specs.declared.verdict.Verdict.TheVariants.{Accepted}
 use Rattle.task_file.specs.Bytes.{task_bytes}
 use Rattle.task_file.specs.WellFormed.{Every, On, WellFormed}
 

@@ -3,54 +3,38 @@
 // The input is a run of records. Kind 0: text, written as it is. Kind 1: a task; its number and value are written. Kind 2: a task that
 // passes; what its readers say is written. Kind 3: a program's length (2 bytes), the program and a task that passes; the
 // program's number and value are written. Kind 4: a number of facts (1 byte) and an action's body; how many of its pairs stand before the
-// first that fails question 6 is written.
+// first that fails question 6 is written. A task of kind 2 or 3 that does not pass counts as one
+// with an empty layout.
 #![tactic(auto)]
 
 ghost use Rattle.std.specs.Prelude.{◌≡◌, true, ◌+◌, ◌≤◌, length};
 
-use records::numbers::{byte_at, two_at};
+use records::numbers::two_at;
 use std::io::{self, Read};
 use task::bounds::Bounds;
 use task::facts::{Literals, pairs_before_fault};
-use task::index::{action_at, case_at, effect_at};
+use task::index::{Index, Layout, action_at, case_at, effect_at};
 use task::program::check_program;
 use task::reading::read_task;
-use task::verdict::Verdict;
+use task::refusal::Refusal;
 
-fn write(rt: &impl Print, text: &[u8]) -> io::Result<()> {
-    rt.write_all(text)
-}
-
-fn write_number(rt: &impl Print, label: &str, n: u64) -> io::Result<()> {
-    print!(rt; "{label}{n}")
+// A yes has the number 0 and the value 0; a no has its question's number and its place.
+fn write_answer(rt: &impl Print, answer: Result<(), Refusal>) -> io::Result<()> {
+    match answer {
+        Ok(()) => println!(rt; "0 0"),
+        Err(refusal) => println!(rt; "{refusal}"),
+    }
 }
 
 fn write_literals(rt: &impl Print, literals: Literals) -> io::Result<()> {
-    write_number(rt, " ", literals.positive)?;
-    write_number(rt, " ", literals.negative)
-}
-
-fn write_verdict(rt: &impl Print, verdict: Verdict) -> io::Result<()> {
-    match verdict {
-        Verdict::Accepted { value } => {
-            write_number(rt, "0 ", value as u64)?;
-        }
-        Verdict::Refused { question, place } => {
-            write_number(rt, "", question as u64)?;
-            write_number(rt, " ", place as u64)?;
-        }
-    }
-    write(rt, b"\n")
+    print!(rt; " {} {}", literals.positive, literals.negative)
 }
 
 // Whether so many bytes are there from an offset on, as those of a task that passes are.
 fn there(bytes: &[u8], at: usize, size: usize) -> bool
     ensures { result ≡ true → at + size ≤ length bytes.now }
 {
-    if bytes.len() < size {
-        return false;
-    }
-    at <= bytes.len() - size
+    size <= bytes.len() && at <= bytes.len() - size
 }
 
 fn write_effect(rt: &impl Print, bytes: &[u8], at: usize, number: u16) -> io::Result<()> {
@@ -58,11 +42,9 @@ fn write_effect(rt: &impl Print, bytes: &[u8], at: usize, number: u16) -> io::Re
         return Ok(());
     }
     let effect = effect_at(bytes, at, number);
-    write(rt, b"; where")?;
+    print!(rt; "; where")?;
     write_literals(rt, effect.condition)?;
-    write(rt, b" raises")?;
-    write_number(rt, " ", effect.raised)?;
-    write_number(rt, " lowers ", effect.lowered)
+    print!(rt; " raises {} lowers {}", effect.raised, effect.lowered)
 }
 
 fn write_action(rt: &impl Print, bytes: &[u8], at: usize) -> io::Result<()> {
@@ -70,14 +52,12 @@ fn write_action(rt: &impl Print, bytes: &[u8], at: usize) -> io::Result<()> {
         return Ok(());
     }
     let action = action_at(bytes, at);
-    write_number(rt, "  action at ", at as u64)?;
-    write(rt, b" needs")?;
+    print!(rt; "  action at {at} needs")?;
     write_literals(rt, action.precondition)?;
-    let effects = action.effects;
-    for e in 0..effects {
+    for e in 0..action.effects {
         write_effect(rt, bytes, at, e)?;
     }
-    write(rt, b"\n")
+    println!(rt)
 }
 
 fn write_case(rt: &impl Print, bytes: &[u8], first: usize, number: u8) -> io::Result<()> {
@@ -85,58 +65,50 @@ fn write_case(rt: &impl Print, bytes: &[u8], first: usize, number: u8) -> io::Re
         return Ok(());
     }
     let case = case_at(bytes, first, number);
-    write_number(rt, "  case from ", case.start)?;
-    write(rt, b" to")?;
+    print!(rt; "  case from {} to", case.start)?;
     write_literals(rt, case.goal)?;
-    write(rt, b"\n")
+    println!(rt)
 }
 
-fn write_bounds(rt: &impl Print, bounds: Bounds) -> io::Result<()> {
-    write_number(rt, "facts ", bounds.facts as u64)?;
-    write_number(rt, " procedures ", bounds.procedures as u64)?;
-    write_number(rt, " last ", bounds.last as u64)?;
-    write_number(rt, " stack ", bounds.stack as u64)?;
-    write_number(rt, " steps ", bounds.steps as u64)?;
-    write(rt, b"\n")
+fn write_bounds(rt: &impl Print, b: Bounds) -> io::Result<()> {
+    println!(rt;
+        "facts {} procedures {} last {} stack {} steps {}",
+        b.facts, b.procedures, b.last, b.stack, b.steps
+    )
 }
 
-fn write_actions(rt: &impl Print, bytes: &[u8], offsets: &[usize], count: usize) -> io::Result<()> {
-    for a in 0..count {
-        if a < offsets.len() {
-            write_action(rt, bytes, offsets[a])?;
-        }
+// The first twelve bytes of the preset program.
+fn write_presets(rt: &impl Print, presets: &[u8; 768]) -> io::Result<()> {
+    print!(rt; "  presets")?;
+    for byte in &presets[..12] {
+        print!(rt; " {byte}")?;
     }
-    Ok(())
+    println!(rt)
 }
 
-fn write_cases(rt: &impl Print, bytes: &[u8], first: usize, count: u8) -> io::Result<()> {
-    for c in 0..count {
-        write_case(rt, bytes, first, c)?;
-    }
-    Ok(())
-}
-
-fn write_presets(rt: &impl Print, presets: &[u8]) -> io::Result<()> {
-    write(rt, b"  presets")?;
-    for k in 0..12 {
-        write_number(rt, " ", byte_at(presets, k) as u64)?;
-    }
-    write(rt, b"\n")
-}
-
-fn write_task(rt: &impl Print, bytes: &[u8]) -> io::Result<()> {
-    let reading = read_task(bytes);
-    let layout = reading.layout;
+// What the readers say of a task.
+fn write_task(rt: &impl Print, bytes: &[u8], layout: &Layout) -> io::Result<()> {
     let index = layout.index;
-    let offsets = layout.offsets;
-    let presets = layout.presets;
     write_bounds(rt, index.bounds)?;
-    write_actions(rt, bytes, &offsets, index.actions as usize)?;
-    write_cases(rt, bytes, index.first, index.cases)?;
-    write_presets(rt, &presets)
+    for &at in layout.offsets.iter().take(index.actions as usize) {
+        write_action(rt, bytes, at)?;
+    }
+    for c in 0..index.cases {
+        write_case(rt, bytes, index.first, c)?;
+    }
+    write_presets(rt, &layout.presets)
 }
 
-fn write_program(rt: &impl Print, bytes: &[u8]) -> io::Result<()> {
+// Where a task stands; a task that does not pass has an empty layout.
+fn layout_of(task: &[u8]) -> Layout {
+    read_task(task).unwrap_or(Layout {
+        index: Index::default(),
+        offsets: [0; 64],
+        presets: [0; 768],
+    })
+}
+
+fn answer_program(rt: &impl Print, bytes: &[u8]) -> io::Result<()> {
     if bytes.len() < 2 {
         return Ok(());
     }
@@ -144,19 +116,18 @@ fn write_program(rt: &impl Print, bytes: &[u8]) -> io::Result<()> {
     if bytes.len() < end {
         return Ok(());
     }
-    let program = &bytes[2..end];
-    let reading = read_task(&bytes[end..]);
-    let layout = reading.layout;
-    let presets = layout.presets;
-    write_verdict(rt, check_program(layout.index, &presets, program))
+    let layout = layout_of(&bytes[end..]);
+    write_answer(
+        rt,
+        check_program(layout.index, &layout.presets, &bytes[2..end]),
+    )
 }
 
-fn write_pairs(rt: &impl Print, bytes: &[u8]) -> io::Result<()> {
-    if bytes.len() < 1 {
+fn answer_pairs(rt: &impl Print, bytes: &[u8]) -> io::Result<()> {
+    let Some((facts, body)) = bytes.split_first() else {
         return Ok(());
-    }
-    write_number(rt, "", pairs_before_fault(bytes[0], &bytes[1..]) as u64)?;
-    write(rt, b"\n")
+    };
+    println!(rt; "{}", pairs_before_fault(*facts, body))
 }
 
 // Reads a record's body and answers it.
@@ -168,15 +139,11 @@ fn answer_body(
 ) -> io::Result<()> {
     let _ = input.read_exact(body);
     match kind {
-        0 => write(rt, body),
-        1 => {
-            let reading = read_task(body);
-            let verdict = reading.verdict;
-            write_verdict(rt, verdict)
-        }
-        2 => write_task(rt, body),
-        3 => write_program(rt, body),
-        _ => write_pairs(rt, body),
+        0 => rt.write_all(body),
+        1 => write_answer(rt, read_task(body).map(|_| ())),
+        2 => write_task(rt, body, &layout_of(body)),
+        3 => answer_program(rt, body),
+        _ => answer_pairs(rt, body),
     }
 }
 
@@ -204,4 +171,52 @@ fn main(rt: HostRuntime) -> io::Result<()> {
         }
     }
     Ok(())
+}
+
+#[cfg(test)]
+mod tests {
+    use task::questions::Question;
+
+    // The numbers of the documents and of the C header.
+    #[test]
+    fn a_question_has_its_number(rt: HostRuntime) {
+        for (question, number) in [
+            (Question::TaskRecordCut, 1),
+            (Question::TaskRecordKind, 2),
+            (Question::TaskRecordLength, 3),
+            (Question::TaskTooMany, 4),
+            (Question::TaskBounds, 5),
+            (Question::TaskFacts, 6),
+            (Question::TaskPreset, 7),
+            (Question::TaskPresetTwice, 8),
+            (Question::TaskNotEnded, 9),
+            (Question::ProgramNoRoom, 10),
+            (Question::PlanRecordCut, 11),
+            (Question::PlanRecordKind, 12),
+            (Question::PlanRecordLength, 13),
+            (Question::StepBound, 14),
+            (Question::StepInstruction, 15),
+            (Question::StepAfterFinish, 16),
+            (Question::StepElsewhere, 17),
+            (Question::StepLine, 18),
+            (Question::Precondition, 19),
+            (Question::Clash, 20),
+            (Question::StackFull, 21),
+            (Question::Goal, 22),
+            (Question::CaseOpen, 23),
+            (Question::PlanNotEnded, 24),
+            (Question::ProgramLength, 25),
+            (Question::ProgramInstruction, 26),
+            (Question::ProgramPreset, 27),
+            (Question::LineEmpty, 28),
+            (Question::PlanNoRoom, 29),
+            (Question::FileTooLong, 30),
+            (Question::RunImpossible, 31),
+            (Question::RunFinished, 32),
+            (Question::CasesFull, 33),
+            (Question::CaseNoRoom, 34),
+        ] {
+            assert_eq!(rt; question as u8, number, "{question:?}");
+        }
+    }
 }

@@ -23,14 +23,12 @@ use Rattle.task.specs.Questions.{PRESET}
 use Rattle.task.specs.Bounds.{bounds_at}
 use Rattle.task.specs.Instruction.{decode_for, encode, triple_at, with_triple}
 use Rattle.task.specs.Program.{line_offset}
-use Rattle.task.specs.Reading.{State, no_index, no_layout, begin, refused, accepted, header_turn, action_turn, on_preset, preset_turn, case_turn, close_turn, read_task}
-use Rattle.task.specs.Verdict.{value_of}
+use Rattle.task.specs.Reading.{State, no_index, no_layout, begin, refused, accepted, header_turn, action_turn, on_preset, preset_turn, case_turn, close_turn, read_task, Reading}
+use Rattle.task.specs.Verdict.{value_of, Accepted}
 use Rattle.task.specs.declared.bounds.Bounds.{Bounds}
 use Rattle.task.specs.declared.instruction.Triple.{Triple}
-use Rattle.task.specs.declared.instruction.Decoded.{Decoded}
-use Rattle.task.specs.declared.instruction.Decoded.TheVariants.{Is, Nothing}
-use Rattle.task.specs.declared.reading.Reading.{Reading}
-use Rattle.task.specs.declared.verdict.Verdict.TheVariants.{Accepted}
+use Rattle.std.specs.Prelude.{Option, Some, None}
+use Rattle.task.specs.declared.instruction.Instruction.{Instruction}
 
 -- how many of the first so many lines of a preset program are not preset
 free : List ℕ → ℕ → ℕ
@@ -136,13 +134,13 @@ module _ (bytes : List ℕ) (s : State) (small : Small s) where
     case-good n =
         ask-good bytes _ _ _ _ here λ h. ask-good bytes _ _ _ _ here λ k. omega (arith, ltb-true s.progress.index.cases 32 h)
 
-    on-preset-good : next ≡ s.progress.at + 9 → (d : Decoded)
+    on-preset-good : next ≡ s.progress.at + 9 → (d : Option Instruction)
         → decode_for s.progress.index.bounds s.progress.index.actions (record { 0 = byte_at bytes start }) (record { 0 = byte_at bytes (start + 1) }) (triple_at bytes (start + 2))
         ≡ d
         → Good bytes (on_preset bytes s start next d)
     unfolding on_preset line_offset
-    on-preset-good n Nothing e = refused-near bytes PRESET s.progress.at here
-    on-preset-good n (Is w) e =
+    on-preset-good n None e = refused-near bytes PRESET s.progress.at here
+    on-preset-good n (Some w) e =
         ask-good bytes _ _ _ _ here λ h.
         let d = decoded-for _ _ _ _ _ w e in
         let b = s.progress.index.bounds in

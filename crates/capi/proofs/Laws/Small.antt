@@ -7,10 +7,8 @@ use native.Mathlib.Omega.{arith}
 use Rattle.records.specs.Numbers.{AreBytes}
 use Rattle.task.specs.Program.{program_verdict}
 use Rattle.task.specs.Reading.{read_task}
-use Rattle.task.specs.Verdict.{value_of}
+use Rattle.task.specs.Verdict.{value_of, Verdict, Accepted, Refused}
 use Rattle.task.specs.declared.index.Case.{Case}
-use Rattle.task.specs.declared.verdict.Verdict.{Verdict}
-use Rattle.task.specs.declared.verdict.Verdict.TheVariants.{Accepted, Refused}
 use Rattle.task.proofs.Laws.Bounds.{ranges}
 use Rattle.task.proofs.Laws.Passed.{Passed}
 use Rattle.task.proofs.Laws.Program.{program-has}

@@ -6,4 +6,4 @@ use Rattle.capi.proofs.Laws.Small.{plan-small}
 use Rattle.capi.proofs.pp_check_plan.Goals as goal
 
 pub packed-requires : goal.packed-requires
-packed-requires c = rw (ap (λ (r : Answer). r.verdict) c.check_plan-verdict.ensures) (plan-small _ _ _)
+packed-requires c = rw (ap (λ (r : Answer). r.verdict) c.check_plan.ensures) (plan-small _ _ _)

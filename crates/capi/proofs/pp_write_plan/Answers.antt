@@ -6,4 +6,4 @@ use Rattle.capi.proofs.Laws.Small.{write-small}
 use Rattle.capi.proofs.pp_write_plan.Goals as goal
 
 pub packed-requires : goal.packed-requires
-packed-requires c = rw (ap (λ (r : Answer). r.verdict) c.write_plan-verdict.ensures) (write-small _ _ _)
+packed-requires c = rw (ap (λ (r : Answer). r.verdict) c.write_plan.ensures) (write-small _ _ _)

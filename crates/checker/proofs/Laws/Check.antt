@@ -3,7 +3,7 @@
 -- Assumes nothing.
 use Prim.Native.Nat.{ℕ, ◌+◌, ◌≤◌, ◌<◌}
 use mathlib.Core.Path.{◌≡◌, refl, sym, ap, ◌∙◌}
-use mathlib.Core.Bool.{Bool, true, false, false≢true, ◌||◌}
+use mathlib.Core.Bool.{Bool, true, false, false≢true, ◌&&◌, ◌||◌, and_assoc}
 use mathlib.Core.List.{List, []}
 use lib.Dec.{eqb, ltb}
 use lib.ListN.{length}
@@ -11,22 +11,22 @@ use native.Mathlib.Omega.{arith}
 use borrow.Author.Tests.{lt-ltb, le-ltb, ltb-true, eq-eqb, ne_eqb, eqb-true}
 use Rattle.records.specs.Loop.{Turn, stop}
 use Rattle.records.specs.Record.{record_at}
-use Rattle.records.specs.declared.record.Found.{Found}
-use Rattle.records.specs.declared.record.Found.TheVariants.{Record, Missing}
-use Rattle.records.proofs.Laws.Loop.{ask-yes, ask-no}
+use Rattle.std.specs.Prelude.{Option, None, Some, Result, Ok, Err, OnOk}
+use Rattle.records.specs.declared.record.Record.{Record}
 use Rattle.records.proofs.Laws.Record.{record-ends}
+use Rattle.records.proofs.Laws.Loop.{ask-yes, ask-no}
 use Rattle.records.proofs.Laws.Tests.{both_true, cond_either, cond_yes, cond_no}
 use Rattle.task.specs.Bounds.{in_range}
 use Rattle.task.specs.Instruction.{spelled, encode, decode_for, triple_at, with_triple}
 use Rattle.task.specs.Program.{line_offset, same_triple, is_instruction}
 use Rattle.task.specs.declared.bounds.Bounds.{Bounds}
 use Rattle.task.specs.declared.index.Index.{Index}
-use Rattle.task.specs.declared.instruction.Decoded.TheVariants.{Is}
 use Rattle.task.specs.declared.instruction.Instruction.{Instruction}
 use Rattle.task.specs.declared.instruction.Line.{Line}
 use Rattle.task.specs.declared.instruction.Proc.{Proc}
 use Rattle.task.specs.declared.instruction.Triple.{Triple}
-use Rattle.task.proofs.Laws.Instruction.{keep-is, not-instruction, instruction-is, decode-spelled, decoded-for, decoded-there, put-length}
+use Rattle.task.specs.declared.questions.Question.{Question}
+use Rattle.task.proofs.Laws.Instruction.{keep-is, not-instruction, instruction-is, decode-spelled, decoded-for, decoded-there}
 use Rattle.task.proofs.Laws.Triple.{same-triple, put_same}
 use Rattle.step.specs.declared.head.Head.{Head}
 use Rattle.step.specs.Perform.{perform}
@@ -34,14 +34,16 @@ use Rattle.step.specs.Position.{same_frame, top}
 use Rattle.step.specs.Questions.{STEPS}
 use Rattle.step.specs.Head.{Stands, top_of}
 use Rattle.step.specs.Moved.{performed_as}
-use Rattle.step.specs.declared.perform.Asked.{Asked}
-use Rattle.step.specs.declared.perform.Asked.TheVariants.{No, Facts}
+use Rattle.step.specs.Ready.{Room}
 use Rattle.step.specs.declared.position.Frame.{Frame}
 use Rattle.step.specs.declared.position.Position.{Position}
 use Rattle.step.proofs.Laws.Moved.{asked-room}
-use Rattle.checker.specs.Answer.{Result, refused, accepted}
+use Rattle.checker.specs.Answer.{Outcome, refused, accepted}
 use Rattle.checker.specs.Check.{line_fits, written, on_move, on_step, on_decoded, step_turn, close_turn, on_record, turn_of}
-use Rattle.checker.specs.Outcome.{StepReady, HasRoom, state, shape_no, line_turn}
+use Rattle.checker.specs.Kind.{kind_number}
+use Rattle.checker.specs.declared.kind.PlanKind.{PlanKind}
+use Rattle.checker.specs.declared.kind.PlanKind.TheVariants as kind
+use Rattle.checker.specs.Outcome.{StepReady, state, shape_no, line_turn}
 use Rattle.checker.specs.Plan.{instruction_of, step_of, is_kind, length_fits, frame_at}
 use Rattle.checker.specs.Questions.{PLAN-RECORD, ALLOWED, OPEN, TOP, LINE, FINISHED, PLAN-CLOSED}
 use Rattle.checker.specs.declared.plan.Step.{Step}
@@ -73,20 +75,28 @@ pub record Shaped (kind size : ℕ) (left : Bool) : Type 0 where
   pub fits : length_fits kind size ≡ true
   pub room : (eqb kind 5 || left) ≡ true
 
-pub shaped : (kind size : ℕ) (left : Bool) (question : ℕ) → question ≡ shape_no kind size left → question ≡ 0 → Shaped kind size left
+pub shaped : (kind size : ℕ) (left : Bool) → shape_no kind size left ≡ None → Shaped kind size left
 unfolding shape_no
-shaped kind size left question eq =
-    let P : ℕ → Type 0 = λ x. x ≡ 0 → Shaped kind size left in
-    rw eq
-    (cond_either P (is_kind kind) _ _
+shaped kind size left =
+    let P : Option ℕ → Type 0 = λ x. x ≡ None → Shaped kind size left in
+    cond_either P (is_kind kind) _ _
     (λ known. cond_either P (length_fits kind size) _ _
-    (λ fits. cond_either P (eqb kind 5 || left) _ _ (λ h e. record { known = known; fits = fits; room = h }) (λ h e. absurd (omega (arith, e))))
-    (λ h e. absurd (omega (arith, e))))
-    (λ h e. absurd (omega (arith, e))))
+    (λ fits. cond_either P (eqb kind 5 || left) _ _ (λ h e. record { known = known; fits = fits; room = h }) (λ h e. cc))
+    (λ h e. cc))
+    (λ h e. cc)
 
 -- so a step's record has a step left
 pub shaped-left : (kind size steps most : ℕ) → Shaped kind size (ltb steps most) → (kind ≡ 5 → ⊥) → steps < most
 shaped-left kind size steps most y n = ltb-true steps most (rw (ne_eqb kind 5 n) at y.room)
+
+-- a record whose kind is another than the closing one's has another number
+pub not-closing : (number : ℕ) (k : PlanKind) → number ≡ kind_number k → (k ≡ kind.Closing → ⊥) → number ≡ 5 → ⊥
+not-closing number k e n h = n (is-closing k (sym e ∙ h))
+  where
+    is-closing : (k : PlanKind) → kind_number k ≡ 5 → k ≡ kind.Closing
+    is-closing kind.Closing z = refl
+    is-closing kind.Write z = absurd (omega arith)
+    is-closing kind.Repeat z = absurd (omega arith)
 
 -- the step of a record runs the record's instruction
 pub step-instruction : (kind : ℕ) (w : Instruction) → instruction_of (step_of kind w) ≡ w
@@ -96,10 +106,10 @@ step-instruction kind w = cond_either (λ (x : Step). instruction_of x ≡ w) (e
 -- three bytes that question 15 lets pass, as `m` says, spell an instruction, and it is the one
 module _ (b : Bounds) (actions : ℕ) (j : Proc) (l : Line) (t : Triple) (m : Bool) (em : m ≡ is_instruction (decode_for b actions j l t))
     (y : m ≡ true) where
-  some : (w : Instruction) × (decode_for b actions j l t ≡ Is w)
+  some : (w : Instruction) × (decode_for b actions j l t ≡ Some w)
   some = instruction-is _ (sym em ∙ y)
 
-  for-spelled : (w : Instruction) → decode_for b actions j l t ≡ Is w → spelled t ≡ Is w
+  for-spelled : (w : Instruction) → decode_for b actions j l t ≡ Some w → spelled t ≡ Some w
   unfolding decode_for
   for-spelled w h = decode-spelled b actions l t w (keep-is _ _ w h).1
 
@@ -107,15 +117,16 @@ module _ (b : Bounds) (actions : ℕ) (j : Proc) (l : Line) (t : Triple) (m : Bo
   unfolding is_instruction
   for-spells = rw (for-spelled some.0 some.1) refl
 
-  for-is : (w : Instruction) → spelled t ≡ Is w → decode_for b actions j l t ≡ Is w
+  for-is : (w : Instruction) → spelled t ≡ Some w → decode_for b actions j l t ≡ Some w
   for-is w e = some.1 ∙ sym (for-spelled some.0 some.1) ∙ e
 
 -- a step on its line, by the instruction's three bytes `w`
 module _ (step : Step) (w : Triple) (k : w ≡ encode (instruction_of step)) where
   -- question 18 of a repeat
-  pub line-repeats : (v : Instruction) → step ≡ Repeat v → (held : Triple) → same_triple held w ≡ line_fits held step
-  unfolding line_fits instruction_of
-  line-repeats v e held = rw e (ap (same_triple held) (rw e at k))
+  pub line-repeats : (v : Instruction) → step ≡ Repeat v → (held : Triple)
+      → (eqb held.op w.op && (eqb held.p w.p && eqb held.q w.q)) ≡ line_fits held step
+  unfolding line_fits instruction_of same_triple
+  line-repeats v e held = sym (and_assoc (eqb held.op w.op) (eqb held.p w.p) (eqb held.q w.q)) ∙ rw e (ap (same_triple held) (rw e at k))
 
   -- a step that fits its line leaves these three bytes there: a repeat's are there already
   pub line-filled : (program : List ℕ) (at : ℕ) → line_fits (triple_at program at) step ≡ true → with_triple program at w ≡ written program at step
@@ -126,17 +137,11 @@ module _ (step : Step) (w : Triple) (k : w ≡ encode (instruction_of step)) whe
       fills (Write v) e y = ap (with_triple program at) e
       fills (Repeat v) e y = rw (e, ← same-triple (triple_at program at) (encode v) y) (put_same program at)
 
--- a step writes in place
-pub written-length : (program : List ℕ) (at : ℕ) (step : Step) → length (written program at step) ≡ length program
-unfolding written
-written-length program at (Write w) = put-length program at (encode w)
-written-length program at (Repeat w) = refl
-
 -- a step on the top frame's line that questions 14 to 17 let pass
 pub step-is-ready : (i : Index) (h : Head) → in_range i.bounds ≡ true → h.case < i.cases → h.steps < i.bounds.steps → (f : Frame)
     → same_frame f (top_of h) ≡ true → (w : Triple) (m : Bool)
     → m ≡ is_instruction (decode_for i.bounds i.actions f.procedure f.line w) → m ≡ true
-    → (x : Instruction) → spelled w ≡ Is x → (kind : ℕ) → StepReady i h (step_of kind x) w
+    → (x : Instruction) → spelled w ≡ Some x → (kind : ℕ) → StepReady i h (step_of kind x) w
 unfolding top_of
 step-is-ready i h ranges case left f same w m em y x e kind =
     let there = decoded-for i.bounds i.actions f.procedure f.line w x (for-is _ _ _ _ _ m em y x e) in
@@ -166,17 +171,16 @@ module _ (i : Index) (plan : List ℕ) (at : ℕ) (p : Position) (program : List
     closes n = ask-yes _ _ _ (eq-eqb next (length plan) n) ∙ ask-yes _ _ _ (eq-eqb p.case i.cases h)
 
 -- the answer `r` to questions 19 to 22, of any position with these facts, this case and this depth: a call has room for its frame
-module _ (bytes : List ℕ) (i : Index) (offsets : List ℕ) (h : Head) (step : Step) (r : Asked)
+module _ (bytes : List ℕ) (i : Index) (offsets : List ℕ) (h : Head) (w : Instruction) (r : Result ℕ Question)
     (e : (s : Position) → s.facts ≡ h.facts → s.case ≡ h.case → s.depth ≡ h.depth
-    → performed_as bytes i s (instruction_of step) r ≡ perform bytes i offsets s (instruction_of step)) where
-  room_for : (q : Asked) → r ≡ q → HasRoom i h step q
-  unfolding HasRoom
-  room_for (No question) k = tt
-  room_for (Facts after) k =
+    → performed_as bytes i s w r ≡ perform bytes i offsets s w) where
+  room_for : (q : Result ℕ Question) → r ≡ q → OnOk q (Room i h.depth w)
+  room_for (Err question) k = tt
+  room_for (Ok after) k =
       let s : Position = record { facts = h.facts; steps = 0; case = h.case; depth = h.depth; frames = [] } in
-      asked-room bytes i offsets s (instruction_of step) r (e s refl refl refl) after k
+      asked-room bytes i offsets s w r (e s refl refl refl) after k
 
-  pub asked-room-for : HasRoom i h step r
+  pub asked-room-for : OnOk r (Room i h.depth w)
   asked-room-for = room_for r refl
 
 -- a step of the top frame's line: `held` is on the line, `l` says whether the step fits it
@@ -191,7 +195,7 @@ module _ (bytes : List ℕ) (i : Index) (offsets : List ℕ) (h : Head) (step : 
   unfolding line_turn
   line-differs n = ask-no _ _ _ (cc (← on_line, el, n))
 
-  pub line_taken : l ≡ true → (after : List ℕ) → after ≡ written program offset step → (r : Asked)
+  pub line_taken : l ≡ true → (after : List ℕ) → after ≡ written program offset step → (r : Result ℕ Question)
       → performed_as bytes i p (instruction_of step) r ≡ perform bytes i offsets p (instruction_of step)
       → on_move at next after (performed_as bytes i p (instruction_of step) r) ≡ line_turn bytes i offsets (state at p program) next step
   unfolding line_turn
@@ -214,7 +218,7 @@ module _ (bytes : List ℕ) (i : Index) (offsets : List ℕ) (at : ℕ) (p : Pos
     none-decoded h = rw (not-instruction _ (sym em ∙ h)) at on-decoded
 
     module _ (y : m ≡ true) where
-      on-step : (x : Instruction) → spelled w ≡ Is x
+      on-step : (x : Instruction) → spelled w ≡ Some x
           → on_step bytes i offsets (state at p program) next f (step_of kind x) ≡ step_turn bytes i offsets (state at p program) plan kind body next
       unfolding on_decoded
       on-step x h = rw (for-is _ _ _ _ _ m em y x h) at on-decoded
@@ -234,7 +238,7 @@ module _ (bytes : List ℕ) (i : Index) (offsets : List ℕ) (at : ℕ) (p : Pos
         unfolding on_step
         another-line h = some-step (λ x e. ask-no _ _ _ h ∙ ask-yes _ _ _ (lt-ltb p.case i.cases o) ∙ e)
 
-        pub step-ready : f ≡ top p → (x : Instruction) → spelled w ≡ Is x
+        pub step-ready : f ≡ top p → (x : Instruction) → spelled w ≡ Some x
             → line_turn bytes i offsets (state at p program) next (step_of kind x)
             ≡ step_turn bytes i offsets (state at p program) plan kind body next
         unfolding on_step line_turn
@@ -243,54 +247,58 @@ module _ (bytes : List ℕ) (i : Index) (offsets : List ℕ) (at : ℕ) (p : Pos
 
 module _ (bytes : List ℕ) (i : Index) (offsets plan : List ℕ) (at : ℕ) (p : Position) (program : List ℕ) where
   -- the record that `f` found at the offset
-  module _ (f : Found) (e : f ≡ record_at plan at) where
-    pub record-missing : f ≡ Missing → stop (refused PLAN-RECORD at) ≡ turn_of bytes i offsets plan (state at p program)
+  module _ (f : Option Record) (e : f ≡ record_at plan at) where
+    pub record-missing : f ≡ None → stop (refused PLAN-RECORD at) ≡ turn_of bytes i offsets plan (state at p program)
     unfolding turn_of on_record
     record-missing h = rw (← e, h)
 
-    module _ (kind body size next : ℕ) (r : f ≡ Record kind body size next) where
-      on-record : on_record bytes i offsets plan (state at p program) (Record kind body size next) ≡ turn_of bytes i offsets plan (state at p program)
+    module _ (r : Record) (g : f ≡ Some r) where
+      on-record : on_record bytes i offsets plan (state at p program) (Some r) ≡ turn_of bytes i offsets plan (state at p program)
       unfolding turn_of
-      on-record = rw (← e, r) refl
+      on-record = rw (← e, g) refl
 
       steps-used : ltb p.steps i.bounds.steps ≡ false
-          → stop (refused STEPS at) ≡ step_turn bytes i offsets (state at p program) plan kind body next
+          → stop (refused STEPS at) ≡ step_turn bytes i offsets (state at p program) plan r.kind r.body r.next
       unfolding step_turn
       steps-used h = ask-no _ _ _ h
 
       -- a question of 12 to 14 that says no
-      pub shape-refused : (question : ℕ) → question ≡ shape_no kind size (ltb p.steps i.bounds.steps) → (question ≡ 0 → ⊥)
-          → stop (refused question at) ≡ turn_of bytes i offsets plan (state at p program)
+      abbrev Refuses : Option ℕ → Type 0
+      Refuses (Some question) = stop (refused question at) ≡ on_record bytes i offsets plan (state at p program) (Some r)
+      Refuses None = Unit {0}
+
+      refuses : Refuses (shape_no r.kind r.length (ltb p.steps i.bounds.steps))
       unfolding shape_no on_record
-      shape-refused question eq n =
-          let P : ℕ → Type 0 = λ x. (x ≡ 0 → ⊥) → stop (refused x at) ≡ on_record bytes i offsets plan (state at p program) (Record kind body size next) in
-          rw eq
-          (cond_either P (is_kind kind) _ _
-          (λ known. cond_either P (length_fits kind size) _ _
-          (λ fits. cond_either P (eqb kind 5 || ltb p.steps i.bounds.steps) _ _ (λ y z. absurd (z refl))
-          (λ h z.
-          let neither = either-false (eqb kind 5) (ltb p.steps i.bounds.steps) h in
+      refuses =
+          cond_either Refuses (is_kind r.kind) _ _
+          (λ known. cond_either Refuses (length_fits r.kind r.length) _ _
+          (λ fits. cond_either Refuses (eqb r.kind 5 || ltb p.steps i.bounds.steps) _ _ (λ y. tt)
+          (λ n.
+          let neither = either-false (eqb r.kind 5) (ltb p.steps i.bounds.steps) n in
           steps-used neither.1 ∙ cond_no _ false _ _ (sym neither.0) refl ∙ ask-yes _ _ _ fits ∙ ask-yes _ _ _ known))
-          (λ h z. ask-no _ _ _ h ∙ ask-yes _ _ _ known))
-          (λ h z. ask-no _ _ _ h)
-          (rw eq at n))
-          ∙ on-record
+          (λ n. ask-no _ _ _ n ∙ ask-yes _ _ _ known))
+          (λ n. ask-no _ _ _ n)
+
+      pub shape-refused : (question : ℕ) → shape_no r.kind r.length (ltb p.steps i.bounds.steps) ≡ Some question
+          → stop (refused question at) ≡ turn_of bytes i offsets plan (state at p program)
+      shape-refused question h = rw h at refuses ∙ on-record
 
       -- all three say yes
-      module _ (y : Shaped kind size (ltb p.steps i.bounds.steps)) where
-        pub closing-record : kind ≡ 5 → close_turn i plan (state at p program) next ≡ turn_of bytes i offsets plan (state at p program)
+      module _ (y : Shaped r.kind r.length (ltb p.steps i.bounds.steps)) where
+        pub closing-record : r.kind ≡ 5 → close_turn i plan (state at p program) r.next ≡ turn_of bytes i offsets plan (state at p program)
         unfolding on_record
-        closing-record h = cond_yes _ true _ _ (sym (eq-eqb kind 5 h)) refl ∙ ask-yes _ _ _ y.fits ∙ ask-yes _ _ _ y.known ∙ on-record
+        closing-record h = cond_yes _ true _ _ (sym (eq-eqb r.kind 5 h)) refl ∙ ask-yes _ _ _ y.fits ∙ ask-yes _ _ _ y.known ∙ on-record
 
-        pub step-record : (kind ≡ 5 → ⊥) → (t : Turn _ Result) → t ≡ step_turn bytes i offsets (state at p program) plan kind body next
+        pub step-record : (r.kind ≡ 5 → ⊥) → (t : Turn _ Outcome)
+            → t ≡ step_turn bytes i offsets (state at p program) plan r.kind r.body r.next
             → t ≡ turn_of bytes i offsets plan (state at p program)
         unfolding on_record
         step-record h t d =
-            d ∙ cond_no _ false _ _ (sym (ne_eqb kind 5 h)) refl ∙ ask-yes _ _ _ y.fits ∙ ask-yes _ _ _ y.known ∙ on-record
+            d ∙ cond_no _ false _ _ (sym (ne_eqb r.kind 5 h)) refl ∙ ask-yes _ _ _ y.fits ∙ ask-yes _ _ _ y.known ∙ on-record
 
 -- a step's body is in the plan
-pub step-there : (plan : List ℕ) (at : ℕ) (f : Found) → f ≡ record_at plan at → (kind body size next : ℕ) → f ≡ Record kind body size next
-    → length_fits kind size ≡ true → (kind ≡ 5 → ⊥) → body + 5 ≤ length plan
+pub step-there : (plan : List ℕ) (at : ℕ) (f : Option Record) → f ≡ record_at plan at → (r : Record) → f ≡ Some r
+    → length_fits r.kind r.length ≡ true → (r.kind ≡ 5 → ⊥) → r.body + 5 ≤ length plan
 unfolding length_fits
-step-there plan at f e kind body size next r l n =
-    omega (arith, record-ends plan at kind body size next (sym e ∙ r), eqb-true size 5 (rw (ne_eqb kind 5 n) at l))
+step-there plan at f e r g l n =
+    omega (arith, record-ends plan at r.kind r.body r.length r.next (sym e ∙ g), eqb-true r.length 5 (rw (ne_eqb r.kind 5 n) at l))

@@ -1,22 +1,26 @@
 -- The writer's loop: the head and the callers beside it stand for a possible position, from which the run by the trace comes to what the whole run
 -- comes to. One step more leads to such a head again, and a question's no or the last case's end to the verdict.
 -- Assumes nothing.
-use Prim.Native.Nat.{ℕ, ◌+◌, ◌*◌, ◌-◌, ◌≤◌, ◌<◌}
+use Prim.Native.Nat.{ℕ, ◌+◌, ◌-◌, ◌≤◌, ◌<◌}
 use mathlib.Core.Path.{◌≡◌, refl, sym, ap, ◌∙◌}
 use mathlib.Core.Bool.{true}
 use mathlib.Core.List.{List, ◌++◌}
 use native.Mathlib.Omega.{arith}
-use lib.ListN.{length, get_or, set, length-set}
+use Rattle.std.proofs.lemmas.List.{length-take-le, get_or-take}
+use lib.ListN.{length, get_or, set, take, length-set}
 use Rattle.records.specs.Loop.{stop, go}
 use Rattle.records.specs.Record.{closing}
 use Rattle.task.specs.Index.{case_at}
 use Rattle.task.specs.Instruction.{allowed}
-use Rattle.task.specs.Program.{line_offset, instruction_on, is_instruction}
+use Rattle.task.specs.Program.{line_offset, instruction_on, is_instruction, program_verdict}
+use Rattle.task.specs.Reading.{read_task, reading}
 use Rattle.task.specs.declared.index.Index.{Index}
 use Rattle.task.specs.declared.index.Layout.{Layout}
-use Rattle.task.specs.declared.instruction.Decoded.TheVariants.{Is}
+use Rattle.std.specs.Prelude.{Some, Result, Ok, Err}
 use Rattle.task.specs.declared.instruction.Instruction.{Instruction}
-use Rattle.task.specs.declared.verdict.Verdict.TheVariants.{Refused}
+use Rattle.task.specs.Verdict.{Accepted, Refused, number, verdict}
+use Rattle.task.specs.declared.questions.Question.{Question}
+use Rattle.task.specs.declared.refusal.Refusal.{Refusal}
 use Rattle.task.proofs.Laws.Bounds.{ranges}
 use Rattle.task.proofs.Laws.Instruction.{decode-allowed}
 use Rattle.task.proofs.Laws.Passed.{Passed}
@@ -29,8 +33,6 @@ use Rattle.step.specs.Position.{origin, top, counted, starting}
 use Rattle.step.specs.Questions.{STEPS}
 use Rattle.step.specs.Ready.{Held, Known, Room}
 use Rattle.step.specs.declared.head.Head.{Head}
-use Rattle.step.specs.declared.perform.Asked.{Asked}
-use Rattle.step.specs.declared.perform.Asked.TheVariants.{No, Facts}
 use Rattle.step.specs.declared.position.Frame.{Frame}
 use Rattle.step.specs.declared.position.Position.{Position}
 use Rattle.step.proofs.Laws.Answers.{steps-used, line-runs}
@@ -40,17 +42,16 @@ use Rattle.step.proofs.Laws.Moved.{asked-no, asked-moves, asked-room}
 use Rattle.step.proofs.Laws.Possible.{parts, case_open}
 use Rattle.step.proofs.Laws.Ready.{passed-held, possible-depth}
 use Rattle.checker.specs.Answer.{Answer, accepted}
-use Rattle.checker.specs.Outcome.{RunsOf}
 use Rattle.checker.specs.Trace.{Spelled, records_after}
 use Rattle.checker.specs.Write.{run, on_finish}
 use Rattle.checker.proofs.Laws.Answer.{size-most}
 use Rattle.checker.proofs.Laws.Stepping.{allowed-known, head-fits, step-stands}
-use Rattle.checker.proofs.Laws.Trace.{traced, byte_of, trace_on, trace-begins, trace-ends, trace-stops, trace-goes, trace-spelled, spelled_none}
+use Rattle.checker.proofs.Laws.Trace.{traced, trace_on, trace-begins, trace-ends, trace-stops, trace-goes, trace-spelled, spelled_none, records-kept, spelled-kept}
 use Rattle.checker.proofs.Laws.Turns.{Standing, read-passed}
 use Rattle.checker.proofs.Laws.Write.{run_from}
 
 -- what holds whenever the loop's test is reached; the last three, of the numbers that the loop's indices stay below
-pub record Running (bytes : List ℕ) (t : Layout) (program trace : List ℕ) (h : Head) (callers : List Frame) : Type 0 where
+pub record Running (bytes : List ℕ) (t : Layout) (program : List ℕ) (trace : List Frame) (h : Head) (callers : List Frame) : Type 0 where
   pub position : Position
   pub stands : Stands h callers position
   pub standing : Standing t.index position
@@ -62,14 +63,15 @@ pub record Running (bytes : List ℕ) (t : Layout) (program trace : List ℕ) (h
   pub deep : h.depth ≤ 16
   pub above : h.case < t.index.cases → 0 < h.depth
 
-module _ (bytes : List ℕ) (t : Layout) (program : List ℕ) (of : RunsOf bytes t program) where
+module _ (bytes : List ℕ) (t : Layout) (program : List ℕ) (read : reading (Ok t) ≡ read_task bytes)
+    (accepts : program_verdict t.index t.presets program ≡ Accepted 0) where
   abbrev i : Index
   i = t.index
 
   passes : Passed bytes t
-  passes = read-passed bytes t of.read
+  passes = read-passed bytes t read
 
-  pub runs-held : Held bytes i t.offsets
+  runs-held : Held bytes i t.offsets
   runs-held = passed-held bytes t passes
 
   pub runs-first : i.first + 28 ≤ length bytes
@@ -86,7 +88,7 @@ module _ (bytes : List ℕ) (t : Layout) (program : List ℕ) (of : RunsOf bytes
 
   -- the first case from its start
   pub runs-begin : (h : Head) → h ≡ starting_head (case_at bytes i.first 0).start → (callers : List Frame)
-      → length callers ≡ 17 → (trace : List ℕ) → length trace ≡ 4096 → Running bytes t program trace h callers
+      → length callers ≡ 17 → (trace : List Frame) → length trace ≡ 4096 → Running bytes t program trace h callers
   unfolding starting
   runs-begin h e callers kept trace room =
       let first = starting 0 (case_at bytes i.first 0).start in
@@ -105,28 +107,40 @@ module _ (bytes : List ℕ) (t : Layout) (program : List ℕ) (of : RunsOf bytes
         above = framed _ callers first (starting-stands _ callers) possible;
       })
 
-  module _ (trace : List ℕ) (h : Head) (callers : List Frame) (r : Running bytes t program trace h callers) where
+  module _ (trace : List Frame) (h : Head) (callers : List Frame) (r : Running bytes t program trace h callers) where
     abbrev s : Position
     s = r.position
 
+    pub runs-count : h.steps ≤ length trace
+    runs-count = omega (arith, (parts i s r.standing.0).steps, r.stands.steps, r.most, r.room)
+
     -- all cases are done: the lines of the steps spell instructions, and the run comes to their records
     module _ (ended : i.cases ≤ h.case) where
-      pub runs-spelled : (h.steps ≤ 4096) × (length program ≤ 768) × (length t.presets ≡ 768) × Spelled i.bounds program trace h.steps
+      -- the frames of the steps
+      abbrev done : List Frame
+      done = take h.steps trace
+
+      count : length done ≡ h.steps
+      count = length-take-le h.steps trace runs-count
+
+      same : (k : ℕ) → k < h.steps → get_or done k origin ≡ get_or trace k origin
+      same k l = get_or-take h.steps trace k origin l
+
+      pub runs-spelled : (length done ≤ 4096) × (length program ≤ 768) × Spelled i.bounds program done (length done)
       runs-spelled =
-          let few = (parts i s r.standing.0).steps in
-          let size = (program-passes i t.presets program of.value of.passes).size in (
-            omega (arith, few, r.stands.steps, r.most),
+          let size = (program-passes i t.presets program 0 accepts).size in (
+            omega (arith, count, runs-count, r.room),
             omega (arith, size, size-most i.bounds passes.bounded),
-            passes.presets,
-            rw (← r.stands.steps) r.spelled,
+            rw count (spelled-kept i.bounds program t.presets trace done h.steps same (rw r.stands.steps at r.spelled)),
           )
 
       pub runs-end : (buffer : List ℕ) (answer : Answer)
-          → answer ≡ on_finish buffer (accepted h.steps (records_after i.bounds program t.presets trace h.steps ++ closing))
+          → answer ≡ on_finish buffer (accepted (length done) (records_after i.bounds program t.presets done (length done) ++ closing))
           → answer ≡ on_finish buffer (run bytes t program)
       runs-end buffer answer e =
           let ends = trace-ends bytes i t.offsets program t.presets trace s (omega (arith, r.stands.case, ended)) in
-          e ∙ ap (on_finish buffer) (rw r.stands.steps at (sym ends ∙ r.whole))
+          let records = records-kept i.bounds program t.presets trace done h.steps same h.steps (omega arith) in
+          e ∙ ap (on_finish buffer) (rw (count, records) (rw r.stands.steps at (sym ends ∙ r.whole)))
 
     module _ (case : h.case < i.cases) where
       opened : s.case < i.cases
@@ -153,17 +167,16 @@ module _ (bytes : List ℕ) (t : Layout) (program : List ℕ) (of : RunsOf bytes
       pub runs-line : (line_offset i.bounds h.procedure h.line + 3 ≤ length program)
           × (is_instruction (instruction_on i program h.procedure h.line) ≡ true)
       runs-line =
-          let p = program-passes i t.presets program of.value of.passes in (
+          let p = program-passes i t.presets program 0 accepts in (
             line-there i t.presets program p h.procedure h.line in-program.0 in-program.1,
             line-passes i t.presets program p h.procedure h.line in-program.0 in-program.1,
           )
 
-      -- the top frame fits a byte
-      pub runs-small : (h.procedure.0 < 8) × (h.line.0 < 32)
-      runs-small = let r = ranges i.bounds passes.bounded in (omega (arith, in-program.0), omega (arith, in-program.1))
+      pub runs-small : h.line.0 < 255
+      runs-small = let r = ranges i.bounds passes.bounded in omega (arith, in-program.1)
 
       -- a step is left, and `w` is the instruction on the top frame's line
-      module _ (left : h.steps < i.bounds.steps) (w : Instruction) (here : instruction_on i program h.procedure h.line ≡ Is w) where
+      module _ (left : h.steps < i.bounds.steps) (w : Instruction) (here : instruction_on i program h.procedure h.line ≡ Some w) where
         few : s.steps < i.bounds.steps
         few = omega (arith, r.stands.steps, left)
 
@@ -178,7 +191,7 @@ module _ (bytes : List ℕ) (t : Layout) (program : List ℕ) (of : RunsOf bytes
         runs-fits = head-fits i runs-held.task h callers s r.stands r.standing opened few w allowed-here
 
         -- `asked` is the answer to its questions
-        module _ (asked : Asked)
+        module _ (asked : Result ℕ Question)
             (ea : (p : Position) → p.facts ≡ h.facts → p.case ≡ h.case → p.depth ≡ h.depth
             → performed_as bytes i p w asked ≡ perform bytes i t.offsets p w) where
           performs : performed_as bytes i s w asked ≡ perform bytes i t.offsets s w
@@ -188,23 +201,25 @@ module _ (bytes : List ℕ) (t : Layout) (program : List ℕ) (of : RunsOf bytes
           unfolding head.top_of
           is-step = line-runs bytes i t.offsets program s few (head.top_of h) (sym r.stands.top) _ refl w here
 
-          pub runs-stop : (question : ℕ) → asked ≡ No question → (buffer : List ℕ)
-              → ◌≡◌ {A = Answer} (record { verdict = Refused question h.steps; buffer = buffer }) (on_finish buffer (run bytes t program))
-          runs-stop question k = stops question (sym (asked-no bytes i t.offsets s w asked performs question k ∙ is-step))
+          -- one of them says no
+          pub runs-stop : (refusal : Refusal) → (question : Question) × (asked ≡ Err question) × (refusal ≡ record { question = question; place = h.steps })
+              → (buffer : List ℕ)
+              → ◌≡◌ {A = Answer} (record { verdict = verdict (Err refusal); buffer = buffer }) (on_finish buffer (run bytes t program))
+          runs-stop refusal k =
+              rw k.2 (stops (number k.0) (sym (asked-no bytes i t.offsets s w asked performs k.0 k.1 ∙ is-step)))
 
           -- one step more
-          pub runs_on : (facts : ℕ) → asked ≡ Facts facts → (caller : Frame) → caller ≡ caller_of h
+          pub runs_on : (facts : ℕ) → asked ≡ Ok facts → (caller : Frame) → caller ≡ caller_of h
               → (below : Frame) → below ≡ get_or (set callers h.depth caller) (h.depth - 1) origin
               → (n : Head) → n ≡ counted_head (moved_head bytes i h below facts w)
-              → Running bytes t program (set trace h.steps (32 * h.procedure.0 + h.line.0)) n (set callers h.depth caller)
-          unfolding byte_of head.top_of
+              → Running bytes t program (set trace h.steps (record { procedure = h.procedure; line = h.line })) n (set callers h.depth caller)
+          unfolding head.top_of
           runs_on facts k caller ec below eb n e =
               let q = counted (moved_by bytes i s facts w) in
               let ran : run_step bytes i t.offsets program s ≡ go q = sym (asked-moves bytes i t.offsets s w asked performs facts k ∙ is-step) in
               let room : s.steps < length trace = omega (arith, few, r.most, r.room) in
-              let small : (top s).line.0 < 32 = rw r.stands.top runs-small.1 in
               let free : Room i h.depth w = rw (← r.stands.depth) (asked-room bytes i t.offsets s w asked performs facts k) in
-              let put : set trace h.steps (byte_of (head.top_of h)) ≡ trace_on trace s = cc (r.stands.top, r.stands.steps) in
+              let put : set trace h.steps (head.top_of h) ≡ trace_on trace s = cc (r.stands.top, r.stands.steps) in
               let stands =
               step-stands i runs-held.task h callers s r.stands r.standing opened few w allowed-here bytes below facts free r.kept
               (rw (← ec) eb) in
@@ -215,9 +230,9 @@ module _ (bytes : List ℕ) (t : Layout) (program : List ℕ) (of : RunsOf bytes
                 position = q;
                 stands = stands;
                 standing = possible;
-                whole = sym (trace-goes bytes i t.offsets program t.presets trace s opened room small q ran) ∙ r.whole;
-                spelled = trace-spelled bytes i t.offsets program t.presets trace s opened room small q ran there r.spelled;
-                room = length-set trace s.steps (byte_of (top s)) ∙ r.room;
+                whole = sym (trace-goes bytes i t.offsets program t.presets trace s opened room q ran) ∙ r.whole;
+                spelled = trace-spelled bytes i t.offsets program t.presets trace s opened room q ran there r.spelled;
+                room = length-set trace s.steps (top s) ∙ r.room;
                 kept = length-set callers h.depth (caller_of h) ∙ r.kept;
                 most = most;
                 deep = deep _ _ q stands possible;

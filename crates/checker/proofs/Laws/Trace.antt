@@ -1,7 +1,7 @@
--- The trace of a run. A frame is its byte's, and a byte that is put at step k changes nothing of the first k steps. So with the top frame's
--- byte at the number of the steps done, the writer's state by the trace goes to the state by the trace after one step more.
+-- The trace of a run. What it leads to after k steps is by its first k frames alone. So with the top frame put at the number of the steps done,
+-- the writer's state by the trace goes to the state by the trace after one step more.
 -- Assumes nothing.
-use Prim.Native.Nat.{ℕ, zero, suc, ◌+◌, ◌*◌, ◌≤◌, ◌<◌}
+use Prim.Native.Nat.{ℕ, zero, suc, ◌+◌, ◌*◌, ◌/◌, ◌%◌, ◌≤◌, ◌<◌}
 use mathlib.Core.Path.{◌≡◌, refl, sym, ap, ◌∙◌}
 use mathlib.Core.Bool.{true}
 use mathlib.Core.List.{List, ◌++◌}
@@ -22,18 +22,30 @@ use Rattle.task.specs.declared.bounds.Bounds.{Bounds}
 use Rattle.task.specs.declared.index.Index.{Index}
 use Rattle.task.proofs.Laws.Instruction.{decode-spelled}
 use Rattle.step.specs.Perform.{run_step}
-use Rattle.step.specs.Position.{starting, top}
+use Rattle.step.specs.Position.{origin, starting, top}
 use Rattle.step.specs.declared.position.Frame.{Frame}
 use Rattle.step.specs.declared.position.Position.{Position}
 use Rattle.step.proofs.Laws.Perform.{step-ran, ran-steps}
 use Rattle.checker.specs.Answer.{refused, accepted}
-use Rattle.checker.specs.Trace.{frame_of, SpelledAt, step_at, lines_with, record_on, Spelled, lines_after, records_after}
+use Rattle.checker.specs.Trace.{SpelledAt, step_at, lines_with, record_on, Spelled, lines_after, records_after}
 use Rattle.checker.specs.Write.{Writing, on_step, write_turn, start, run}
 use Rattle.checker.proofs.Laws.Check.{frame_is}
 use Rattle.checker.proofs.Laws.Write.{record-length, finished-accepts, run_from, run-start, run-turn}
 
+-- a frame in one byte, its procedure below 8 and its line below 32, and the frame of such a byte
+unfoldable pub byte_of : Frame → ℕ
+byte_of f = 32 * f.procedure.0 + f.line.0
+
+unfoldable pub frame_of : ℕ → Frame
+frame_of n = record { procedure = record { 0 = n / 32 }; line = record { 0 = n % 32 } }
+
+-- the frame of a frame's byte is that frame
+pub byte-frame : (f : Frame) → f.line.0 < 32 → frame_of (byte_of f) ≡ f
+unfolding byte_of frame_of
+byte-frame f h = frame_is (omega arith) (omega arith)
+
 -- the writer's state at a position, by the trace of the steps done
-abbrev pub traced : Bounds → List ℕ → List ℕ → List ℕ → Position → Writing
+abbrev pub traced : Bounds → List ℕ → List ℕ → List Frame → Position → Writing
 traced b program presets trace position =
     record {
       position = position;
@@ -41,29 +53,20 @@ traced b program presets trace position =
       plan = records_after b program presets trace position.steps;
     }
 
--- the byte of a frame, whose procedure is below 8 and whose line below 32
-unfoldable pub byte_of : Frame → ℕ
-byte_of f = 32 * f.procedure.0 + f.line.0
-
--- the frame of a frame's byte is that frame
-pub byte-frame : (f : Frame) → f.line.0 < 32 → frame_of (byte_of f) ≡ f
-unfolding byte_of frame_of
-byte-frame f h = frame_is (omega arith) (omega arith)
-
-module _ (b : Bounds) (program presets trace : List ℕ) where
+module _ (b : Bounds) (program presets : List ℕ) (trace : List Frame) where
   pub lines_next : (k : ℕ) → lines_after b program presets trace (k + 1)
-      ≡ lines_with b program (lines_after b program presets trace k) (frame_of (get_or trace k 0))
+      ≡ lines_with b program (lines_after b program presets trace k) (get_or trace k origin)
   unfolding lines_after
   lines_next k = rw (add-one k) refl
 
   pub records-next : (k : ℕ) → records_after b program presets trace (k + 1)
-      ≡ records_after b program presets trace k ++ record_on b program (lines_after b program presets trace k) (frame_of (get_or trace k 0))
+      ≡ records_after b program presets trace k ++ record_on b program (lines_after b program presets trace k) (get_or trace k origin)
   unfolding records_after
   records-next k = rw (add-one k) refl
 
   -- the record of one more step, and all of them: they have 9 bytes each
   abbrev pub record_next : ℕ → List ℕ
-  record_next k = record_on b program (lines_after b program presets trace k) (frame_of (get_or trace k 0))
+  record_next k = record_on b program (lines_after b program presets trace k) (get_or trace k origin)
 
   pub next-length : (k : ℕ) → length (record_next k) ≡ 9
   unfolding record_on
@@ -75,52 +78,59 @@ module _ (b : Bounds) (program presets trace : List ℕ) where
   records-length (suc k) =
       length-append (records_after b program presets trace k) (record_next k) ∙ omega (arith, records-length k, next-length k)
 
--- a byte that is put at step `j` or later
-module _ (b : Bounds) (program presets trace : List ℕ) (j n : ℕ) where
-  pub lines-kept : (k : ℕ) → k ≤ j → lines_after b program presets (set trace j n) k ≡ lines_after b program presets trace k
+-- traces with the same first `j` frames
+module _ (b : Bounds) (program presets : List ℕ) (trace other : List Frame) (j : ℕ)
+    (same : (k : ℕ) → k < j → get_or other k origin ≡ get_or trace k origin) where
+  pub lines-kept : (k : ℕ) → k ≤ j → lines_after b program presets other k ≡ lines_after b program presets trace k
   unfolding lines_after
   lines-kept zero h = refl
-  lines-kept (suc k) h = rw (get_or-set_other trace j k n 0 (omega arith), lines-kept k (omega arith)) refl
+  lines-kept (suc k) h = rw (same k (omega arith), lines-kept k (omega arith)) refl
 
-  pub records-kept : (k : ℕ) → k ≤ j → records_after b program presets (set trace j n) k ≡ records_after b program presets trace k
+  pub records-kept : (k : ℕ) → k ≤ j → records_after b program presets other k ≡ records_after b program presets trace k
   unfolding records_after
   records-kept zero h = refl
-  records-kept (suc k) h =
-      rw (get_or-set_other trace j k n 0 (omega arith), lines-kept k (omega arith), records-kept k (omega arith)) refl
+  records-kept (suc k) h = rw (same k (omega arith), lines-kept k (omega arith), records-kept k (omega arith)) refl
 
--- a frame's byte that is put at step `k`
-module _ (trace : List ℕ) (k : ℕ) (f : Frame) (room : k < length trace) (small : f.line.0 < 32) where
-  frame-put : frame_of (get_or (set trace k (byte_of f)) k 0) ≡ f
-  frame-put = ap frame_of (get_or-set_same trace k (byte_of f) 0 room) ∙ byte-frame f small
+  pub spelled-kept : Spelled b program trace j → Spelled b program other j
+  unfolding Spelled
+  spelled-kept h k l = rw (same k l) (h k l)
+
+-- a frame that is put at step `k`
+module _ (trace : List Frame) (k : ℕ) (f : Frame) (room : k < length trace) where
+  frame-put : get_or (set trace k f) k origin ≡ f
+  frame-put = get_or-set_same trace k f origin room
+
+  before-put : (m : ℕ) → m < k → get_or (set trace k f) m origin ≡ get_or trace m origin
+  before-put m h = get_or-set_other trace k m f origin (omega arith)
 
   pub trace-lines : (b : Bounds) (program presets : List ℕ)
-      → lines_after b program presets (set trace k (byte_of f)) (k + 1) ≡ lines_with b program (lines_after b program presets trace k) f
+      → lines_after b program presets (set trace k f) (k + 1) ≡ lines_with b program (lines_after b program presets trace k) f
   trace-lines b program presets =
-      lines_next b program presets _ k ∙ rw (frame-put, lines-kept b program presets trace k (byte_of f) k (omega arith)) refl
+      lines_next b program presets _ k ∙ rw (frame-put, lines-kept b program presets trace (set trace k f) k before-put k (omega arith)) refl
 
   pub trace-records : (b : Bounds) (program presets : List ℕ)
-      → records_after b program presets (set trace k (byte_of f)) (k + 1)
+      → records_after b program presets (set trace k f) (k + 1)
       ≡ records_after b program presets trace k ++ record_on b program (lines_after b program presets trace k) f
   trace-records b program presets =
       records-next b program presets _ k
       ∙ rw
-      (frame-put, lines-kept b program presets trace k (byte_of f) k (omega arith), records-kept b program presets trace k (byte_of f) k (omega arith))
+      (frame-put, lines-kept b program presets trace (set trace k f) k before-put k (omega arith), records-kept b program presets trace (set trace k f) k before-put k (omega arith))
       refl
 
--- the trace after the step at a position: the top frame's byte at the number of the steps done
-abbrev pub trace_on : List ℕ → Position → List ℕ
-trace_on trace p = set trace p.steps (byte_of (top p))
+-- the trace after the step at a position: the top frame at the number of the steps done
+abbrev pub trace_on : List Frame → Position → List Frame
+trace_on trace p = set trace p.steps (top p)
 
 -- the run by the trace
 module _ (bytes : List ℕ) (i : Index) (offsets program presets : List ℕ) where
   -- it begins with any trace
-  pub trace-begins : (trace : List ℕ)
+  pub trace-begins : (trace : List Frame)
       → run_from bytes i offsets program (traced i.bounds program presets trace (starting 0 (case_at bytes i.first 0).start))
       ≡ run bytes (record { index = i; offsets = offsets; presets = presets }) program
   unfolding start starting lines_after records_after
   trace-begins trace = run-start bytes i offsets program presets
 
-  module _ (trace : List ℕ) (p : Position) where
+  module _ (trace : List Frame) (p : Position) where
     -- behind the last case: the records and the closing one
     pub trace-ends : i.cases ≤ p.case
         → run_from bytes i offsets program (traced i.bounds program presets trace p)
@@ -146,7 +156,7 @@ module _ (bytes : List ℕ) (i : Index) (offsets program presets : List ℕ) whe
       trace-stops question e = run-turn bytes i offsets program _ ∙ rw (turn-steps (stop question) e) refl
 
       -- one step more
-      module _ (room : p.steps < length trace) (small : (top p).line.0 < 32) (q : Position) (e : run_step bytes i offsets program p ≡ go q) where
+      module _ (room : p.steps < length trace) (q : Position) (e : run_step bytes i offsets program p ≡ go q) where
         pub trace-steps : q.steps ≡ p.steps + 1
         trace-steps = ran-steps bytes i offsets p program q (step-ran bytes i offsets p program q e).1
 
@@ -157,8 +167,8 @@ module _ (bytes : List ℕ) (i : Index) (offsets program presets : List ℕ) whe
             turn-steps (go q) e
             ∙ rw (
               trace-steps,
-              trace-lines trace p.steps (top p) room small i.bounds program presets,
-              trace-records trace p.steps (top p) room small i.bounds program presets,
+              trace-lines trace p.steps (top p) room i.bounds program presets,
+              trace-records trace p.steps (top p) room i.bounds program presets,
             )
             refl
 
@@ -179,11 +189,11 @@ module _ (bytes : List ℕ) (i : Index) (offsets program presets : List ℕ) whe
         unfolding Spelled
         trace-spelled there h k l = by (eq-or-lt_of_le {n = k} {m = p.steps} (omega (arith, trace-steps)))
           where
-            by : (k ≡ p.steps) ⊎ (k < p.steps) → SpelledAt i.bounds program (frame_of (get_or (trace_on trace p) k 0))
-            by (inl at) = rw (at, frame-put trace p.steps (top p) room small) (record { there = there; spells = top-spells })
-            by (inr before) = rw (get_or-set_other trace p.steps k (byte_of (top p)) 0 (omega arith)) (h k before)
+            by : (k ≡ p.steps) ⊎ (k < p.steps) → SpelledAt i.bounds program (get_or (trace_on trace p) k origin)
+            by (inl at) = rw (at, frame-put trace p.steps (top p) room) (record { there = there; spells = top-spells })
+            by (inr before) = rw (before-put trace p.steps (top p) room k before) (h k before)
 
 -- of no step, every line spells an instruction
-pub spelled_none : (b : Bounds) (program trace : List ℕ) → Spelled b program trace 0
+pub spelled_none : (b : Bounds) (program : List ℕ) (trace : List Frame) → Spelled b program trace 0
 unfolding Spelled
 spelled_none b program trace k h = absurd (omega arith)

@@ -12,19 +12,18 @@ use lib.ListN.{length}
 use borrow.Author.Tests.{ltb-true, eqb-true, lt-ltb, eq-eqb}
 use Rattle.records.specs.Loop.{Turn, stop, go, ask, after, loop}
 use Rattle.records.specs.Record.{record_at}
-use Rattle.records.specs.declared.record.Found.{Found}
-use Rattle.records.specs.declared.record.Found.TheVariants.{Record, Missing}
+use Rattle.std.specs.Prelude.{Option, None, Some, Ok}
+use Rattle.records.specs.declared.record.Record.{Record}
+use Rattle.records.proofs.Laws.Record.{found_record, record-ends}
 use Rattle.records.proofs.Laws.Loop.{Keeps, ask-keeps, unroll, loop-keeps}
-use Rattle.records.proofs.Laws.Record.{record-ends}
 use Rattle.records.proofs.Laws.Tests.{cond_either}
 use Rattle.task.specs.Instruction.{decode_for, triple_at}
 use Rattle.task.specs.Program.{line_offset}
 use Rattle.task.specs.declared.index.Index.{Index}
 use Rattle.task.specs.declared.index.Layout.{Layout}
-use Rattle.task.specs.declared.instruction.Decoded.{Decoded}
-use Rattle.task.specs.declared.instruction.Decoded.TheVariants.{Is, Nothing}
 use Rattle.task.specs.declared.instruction.Instruction.{Instruction}
 use Rattle.task.proofs.Laws.Instruction.{decoded-for}
+use Rattle.task.specs.Reading.{Reading, accepted as accepted_task, read_task, reading}
 use Rattle.task.proofs.Laws.Passed.{Passed, passed}
 use Rattle.step.specs.Perform.{perform}
 use Rattle.step.specs.Position.{same_frame, starting, top}
@@ -34,9 +33,8 @@ use Rattle.step.specs.declared.position.Position.{Position}
 use Rattle.step.proofs.Laws.Kept.{step-possible}
 use Rattle.step.proofs.Laws.Perform.{RefusalNumber, steps-grow, stop-number}
 use Rattle.step.proofs.Laws.Possible.{parts, case_open}
-use Rattle.checker.specs.Answer.{Result, refused, accepted}
+use Rattle.checker.specs.Answer.{Outcome, refused, accepted}
 use Rattle.checker.specs.Check.{State, line_fits, written, on_move, on_step, on_decoded, step_turn, close_turn, on_record, turn_of, left, begin, follow}
-use Rattle.checker.specs.Outcome.{ReadAs}
 use Rattle.checker.specs.Plan.{step_of, is_kind, length_fits, frame_at}
 use Rattle.checker.specs.Questions.{PLAN-RECORD, PLAN-CLOSED}
 use Rattle.checker.proofs.Laws.Check.{same-frame, step-instruction}
@@ -44,7 +42,7 @@ use Rattle.checker.proofs.Laws.Check.{same-frame, step-instruction}
 module _ (bytes : List ℕ) (i : Index) (offsets plan : List ℕ) (s : State) where
   -- a step's record at the offset: questions 11 to 13 say yes
   pub record StepRecord (kind body size next : ℕ) : Type 0 where
-    pub found : record_at plan s.at ≡ Record kind body size next
+    pub found : record_at plan s.at ≡ found_record kind body size next
     pub known : is_kind kind ≡ true
     pub fits : length_fits kind size ≡ true
     pub step : eqb kind 5 ≡ false
@@ -52,7 +50,7 @@ module _ (bytes : List ℕ) (i : Index) (offsets plan : List ℕ) (s : State) wh
   -- a step that is taken at frame `f`: questions 14 to 22 say yes, and the run goes on to a position
   pub record Taken (kind body : ℕ) (f : Frame) (w : Instruction) (position : Position) : Type 0 where
     pub few : s.position.steps < i.bounds.steps
-    pub decoded : decode_for i.bounds i.actions f.procedure f.line (triple_at plan (body + 2)) ≡ Is w
+    pub decoded : decode_for i.bounds i.actions f.procedure f.line (triple_at plan (body + 2)) ≡ Some w
     pub case : s.position.case < i.cases
     pub here : same_frame f (top s.position) ≡ true
     pub line : line_fits (triple_at s.program (line_offset i.bounds f.procedure f.line)) (step_of kind w) ≡ true
@@ -85,7 +83,7 @@ module _ (bytes : List ℕ) (i : Index) (offsets plan : List ℕ) (s : State) wh
     pub body : ℕ
     pub size : ℕ
     pub next : ℕ
-    pub found : record_at plan s.at ≡ Record kind body size next
+    pub found : record_at plan s.at ≡ found_record kind body size next
     pub known : is_kind kind ≡ true
     pub fits : length_fits kind size ≡ true
     pub closing : eqb kind 5 ≡ true
@@ -95,14 +93,14 @@ module _ (bytes : List ℕ) (i : Index) (offsets plan : List ℕ) (s : State) wh
     pub same : program ≡ s.program
 
   -- what an answer says: a refusal has a number that one can have, and the record's offset as its place, or for 24 the offset behind the closing record
-  abbrev Ended : Result → Type 0
+  abbrev Ended : Outcome → Type 0
   Ended (refused question place) = RefusalNumber question × (place ≤ s.at + 4)
   Ended (accepted steps program) = Ends steps program
 
-  abbrev Says : Turn State Result → Type 0
+  abbrev Says : Turn State Outcome → Type 0
   Says = Keeps Went Ended
 
-  ask-says : (answer : Bool) (question : ℕ) (rest : Turn State Result) → RefusalNumber question → (answer ≡ true → Says rest)
+  ask-says : (answer : Bool) (question : ℕ) (rest : Turn State Outcome) → RefusalNumber question → (answer ≡ true → Says rest)
       → Says (ask answer (refused question s.at) rest)
   ask-says answer question rest n k = ask-keeps Went Ended answer _ rest (n, omega arith) k
 
@@ -126,12 +124,12 @@ module _ (bytes : List ℕ) (i : Index) (offsets plan : List ℕ) (s : State) wh
           to = refl;
         }
 
-    decoded-says : StepRecord kind body size next → s.position.steps < i.bounds.steps → (d : Decoded)
+    decoded-says : StepRecord kind body size next → s.position.steps < i.bounds.steps → (d : Option Instruction)
         → decode_for i.bounds i.actions (frame_at plan body).procedure (frame_at plan body).line (triple_at plan (body + 2)) ≡ d
         → Says (on_decoded bytes i offsets s kind next (frame_at plan body) d)
     unfolding on_decoded on_step
-    decoded-says r few Nothing e = omega arith
-    decoded-says r few (Is w) e =
+    decoded-says r few None e = omega arith
+    decoded-says r few (Some w) e =
         ask-says _ _ _ (omega arith) λ case.
         ask-says _ _ _ (omega arith) λ here.
         ask-says _ _ _ (omega arith) λ line.
@@ -142,7 +140,7 @@ module _ (bytes : List ℕ) (i : Index) (offsets plan : List ℕ) (s : State) wh
     unfolding step_turn
     step-says r = ask-says _ _ _ (omega arith) λ few. decoded-says r (ltb-true _ _ few) _ refl
 
-    close-says : record_at plan s.at ≡ Record kind body size next → is_kind kind ≡ true → length_fits kind size ≡ true → eqb kind 5 ≡ true
+    close-says : record_at plan s.at ≡ found_record kind body size next → is_kind kind ≡ true → length_fits kind size ≡ true → eqb kind 5 ≡ true
         → Says (close_turn i plan s next)
     unfolding close_turn length_fits
     close-says found known fits closing =
@@ -165,15 +163,15 @@ module _ (bytes : List ℕ) (i : Index) (offsets plan : List ℕ) (s : State) wh
           same = refl;
         }
 
-  record-says : (f : Found) → record_at plan s.at ≡ f → Says (on_record bytes i offsets plan s f)
+  record-says : (f : Option Record) → record_at plan s.at ≡ f → Says (on_record bytes i offsets plan s f)
   unfolding on_record
-  record-says Missing e = omega arith
-  record-says (Record kind body size next) e =
+  record-says None e = omega arith
+  record-says (Some r) e =
       ask-says _ _ _ (omega arith) λ known.
       ask-says _ _ _ (omega arith) λ fits.
-      cond_either Says (eqb kind 5) (close_turn i plan s next) (step_turn bytes i offsets s plan kind body next)
-      (λ closing. close-says kind body size next e known fits closing)
-      (λ step. step-says kind body size next (record { found = e; known = known; fits = fits; step = step }))
+      cond_either Says (eqb r.kind 5) (close_turn i plan s r.next) (step_turn bytes i offsets s plan r.kind r.body r.next)
+      (λ closing. close-says r.kind r.body r.length r.next e known fits closing)
+      (λ step. step-says r.kind r.body r.length r.next (record { found = e; known = known; fits = fits; step = step }))
 
   turn-says : Says (turn_of bytes i offsets plan s)
   unfolding turn_of
@@ -227,8 +225,9 @@ abbrev pub Standing : Index → Position → Type 0
 Standing i p = (possible i p ≡ true) × (length p.frames ≡ 16)
 
 -- what holds of a task that passes
-pub read-passed : (bytes : List ℕ) (t : Layout) → ReadAs bytes t → Passed bytes t
-read-passed bytes t r = rw r.layout at (passed bytes r.value r.verdict)
+pub read-passed : (bytes : List ℕ) (t : Layout) → reading (Ok t) ≡ read_task bytes → Passed bytes t
+unfolding reading accepted_task
+read-passed bytes t e = rw (ap (λ (r : Reading). r.layout) e) (passed bytes 0 (sym (ap (λ (r : Reading). r.verdict) e)))
 
 -- a turn that goes on leads to a possible position again
 pub turn-stands : (bytes : List ℕ) (t : Layout) → Passed bytes t → (plan : List ℕ) (s u : State) → Standing t.index s.position
@@ -243,7 +242,7 @@ turn-stands bytes t passed plan s u h e =
     rw w.to (step-possible bytes t passed p h.0 above k.few h.1 w.instruction (rw same at line) w.position k.moves)
 
 -- what the plan comes to from a state on
-unfoldable pub from : List ℕ → Index → List ℕ → List ℕ → State → Result
+unfoldable pub from : List ℕ → Index → List ℕ → List ℕ → State → Outcome
 from bytes i offsets plan = loop (turn_of bytes i offsets plan) (left plan) (refused PLAN-RECORD 0)
 
 module _ (bytes : List ℕ) (i : Index) (offsets plan : List ℕ) where
@@ -258,21 +257,21 @@ module _ (bytes : List ℕ) (i : Index) (offsets plan : List ℕ) where
   from-turn s = unroll (turn_of bytes i offsets plan) (left plan) (refused PLAN-RECORD 0) (falls bytes i offsets plan) s
 
   -- one record more
-  module _ (s : State) (whole : Result) (r : from bytes i offsets plan s ≡ whole) where
-    rest : (t : Turn State Result) → t ≡ turn_of bytes i offsets plan s → after t (from bytes i offsets plan) ≡ whole
-    rest t e = ap (λ (u : Turn State Result). after u (from bytes i offsets plan)) e ∙ sym (from-turn s) ∙ r
+  module _ (s : State) (whole : Outcome) (r : from bytes i offsets plan s ≡ whole) where
+    rest : (t : Turn State Outcome) → t ≡ turn_of bytes i offsets plan s → after t (from bytes i offsets plan) ≡ whole
+    rest t e = ap (λ (u : Turn State Outcome). after u (from bytes i offsets plan)) e ∙ sym (from-turn s) ∙ r
 
     pub from_goes : (t : State) → go t ≡ turn_of bytes i offsets plan s → from bytes i offsets plan t ≡ whole
     unfolding after
     from_goes t e = rest (go t) e
 
-    pub from-stops : (x : Result) → stop x ≡ turn_of bytes i offsets plan s → x ≡ whole
+    pub from-stops : (x : Outcome) → stop x ≡ turn_of bytes i offsets plan s → x ≡ whole
     unfolding after
     from-stops x e = rest (stop x) e
 
 -- a result within the step bound: no more steps than that; a refusal has a number that one can have, and a place that the records of so many steps and
 -- the closing one reach
-abbrev pub Within : Index → Result → Type 0
+abbrev pub Within : Index → Outcome → Type 0
 Within i (refused question place) = RefusalNumber question × (place ≤ 9 * i.bounds.steps + 4)
 Within i (accepted steps bytes) = steps ≤ i.bounds.steps
 
@@ -282,7 +281,7 @@ module _ (bytes : List ℕ) (t : Layout) (plan : List ℕ) where
     read : s.at ≡ 9 * s.position.steps
     few : s.position.steps ≤ t.index.bounds.steps
 
-  turn-within : (s : State) → Read s → (u : Turn State Result) → turn_of bytes t.index t.offsets plan s ≡ u → Keeps Read (Within t.index) u
+  turn-within : (s : State) → Read s → (u : Turn State Outcome) → turn_of bytes t.index t.offsets plan s ≡ u → Keeps Read (Within t.index) u
   unfolding length_fits
   turn-within s r (go v) e =
       let w = goes-went bytes t.index t.offsets plan s v e in

@@ -13,11 +13,10 @@ use Rattle.task.specs.Bounds.{program_size}
 use Rattle.task.specs.Program.{program_verdict}
 use Rattle.task.specs.Reading.{read_task}
 use Rattle.task.specs.declared.index.Layout.{Layout}
-use Rattle.task.specs.declared.verdict.Verdict.{Verdict}
-use Rattle.task.specs.declared.verdict.Verdict.TheVariants.{Accepted, Refused}
+use Rattle.task.specs.Verdict.{Verdict, Accepted, Refused}
 use Rattle.task.proofs.Laws.Passed.{Passed, passed}
 use Rattle.step.proofs.Laws.Perform.{RefusalNumber}
-use Rattle.checker.specs.Answer.{Result, refused, accepted, passing, answer}
+use Rattle.checker.specs.Answer.{Outcome, refused, accepted, passing, answer}
 use Rattle.checker.specs.Check.{follow, check}
 use Rattle.checker.specs.Plan.{plan_size}
 use Rattle.checker.specs.Questions.{BUFFER, PLAN-BUFFER}
@@ -38,12 +37,12 @@ module _ (Q : Verdict → Type 0) where
     abbrev most : ℕ
     most = t.index.bounds.steps
 
-    answer-has : (size : ℕ) (r : Result) → Covers most → Within t.index r → Q (answer size buffer r).verdict
+    answer-has : (size : ℕ) (r : Outcome) → Covers most → Within t.index r → Q (answer size buffer r).verdict
     unfolding answer
     answer-has size (refused question place) c h = c.refusal question place h.0 h.1
     answer-has size (accepted steps bytes) c h = c.acceptance steps h
 
-    finish-has : (r : Result) → Covers most → Within t.index r → Q (on_finish buffer r).verdict
+    finish-has : (r : Outcome) → Covers most → Within t.index r → Q (on_finish buffer r).verdict
     unfolding on_finish plan_size
     finish-has (refused question place) c h = c.refusal question place h.0 h.1
     finish-has (accepted steps plan) c h =
@@ -52,7 +51,7 @@ module _ (Q : Verdict → Type 0) where
         (λ e. omega (arith, h)))
 
     -- what follows the task's verdict: question 10, and the plan
-    abbrev on_plan : List ℕ → Result
+    abbrev on_plan : List ℕ → Outcome
     on_plan plan = cond (leb (program_size t.index.bounds) (length buffer)) (follow bytes t plan) (refused BUFFER 0)
 
     -- a property of the task's verdict, of the program's and of every one within the bound is one of the verdict

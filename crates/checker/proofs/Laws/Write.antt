@@ -20,7 +20,7 @@ use Rattle.task.specs.Instruction.{triple_at}
 use Rattle.task.specs.Program.{line_offset, instruction_on}
 use Rattle.task.specs.declared.index.Index.{Index}
 use Rattle.task.specs.declared.index.Layout.{Layout}
-use Rattle.task.specs.declared.instruction.Decoded.TheVariants.{Is}
+use Rattle.std.specs.Prelude.{Some}
 use Rattle.task.specs.declared.instruction.Instruction.{Instruction}
 use Rattle.task.proofs.Laws.Passed.{Passed}
 use Rattle.task.proofs.Laws.Triple.{decoded-on}
@@ -31,7 +31,7 @@ use Rattle.step.specs.declared.position.Position.{Position}
 use Rattle.step.proofs.Laws.Kept.{run-possible}
 use Rattle.step.proofs.Laws.Perform.{steps-grow, step-ran, step-number}
 use Rattle.step.proofs.Laws.Possible.{parts, case_open}
-use Rattle.checker.specs.Answer.{Result, refused, accepted}
+use Rattle.checker.specs.Answer.{Outcome, refused, accepted}
 use Rattle.checker.specs.Check.{written}
 use Rattle.checker.specs.Plan.{PlanStep, record_of}
 use Rattle.checker.specs.Write.{Writing, step_on, on_step, write_turn, steps_left, start, run}
@@ -72,7 +72,7 @@ module _ (bytes : List ℕ) (i : Index) (offsets : List ℕ) (s : Writing) (prog
     pub position : Position
     pub case : s.position.case < i.cases
     pub few : s.position.steps < i.bounds.steps
-    pub line : instruction_on i program (top s.position).procedure (top s.position).line ≡ Is instruction
+    pub line : instruction_on i program (top s.position).procedure (top s.position).line ≡ Some instruction
     pub moves : perform bytes i offsets s.position instruction ≡ go position
     pub to : u ≡ onward i s instruction position
 
@@ -88,15 +88,15 @@ module _ (bytes : List ℕ) (i : Index) (offsets : List ℕ) (s : Writing) (prog
     pub stops : run_step bytes i offsets program s.position ≡ stop question
     pub count : place ≡ s.position.steps
 
-  abbrev Ended : Result → Type 0
+  abbrev Ended : Outcome → Type 0
   Ended (refused question place) = Halted question place
   Ended (accepted steps plan) = Finished steps plan
 
-  abbrev Says : Turn Writing Result → Type 0
+  abbrev Says : Turn Writing Outcome → Type 0
   Says = Keeps Written Ended
 
   -- the step of an instruction that the line holds is the one that it leads onward with
-  step-onward : (w : Instruction) (position : Position) → instruction_on i program (top s.position).procedure (top s.position).line ≡ Is w
+  step-onward : (w : Instruction) (position : Position) → instruction_on i program (top s.position).procedure (top s.position).line ≡ Some w
       → on_step i program s (go position) ≡ go (onward i s w position)
   unfolding on_step
   step-onward w position e = rw (decoded-on i program (top s.position).procedure (top s.position).line w e).1 refl
@@ -162,7 +162,7 @@ written_stands bytes t passed s u program h e =
     rw w.to (run-possible bytes t passed p h.0 above h.1 program w.position (written-runs bytes t.index t.offsets s program u w))
 
 -- what the run comes to from a state on
-unfoldable pub run_from : List ℕ → Index → List ℕ → List ℕ → Writing → Result
+unfoldable pub run_from : List ℕ → Index → List ℕ → List ℕ → Writing → Outcome
 run_from bytes i offsets program = loop (write_turn bytes i offsets program) (steps_left i) (refused STEPS 0)
 
 module _ (bytes : List ℕ) (i : Index) (offsets program : List ℕ) where
@@ -182,7 +182,7 @@ module _ (bytes : List ℕ) (i : Index) (offsets program : List ℕ) where
   abbrev Few : Writing → Type 0
   Few s = s.position.steps ≤ i.bounds.steps
 
-  turn-within : (s : Writing) → Few s → (u : Turn Writing Result) → write_turn bytes i offsets program s ≡ u → Keeps Few (Within i) u
+  turn-within : (s : Writing) → Few s → (u : Turn Writing Outcome) → write_turn bytes i offsets program s ≡ u → Keeps Few (Within i) u
   turn-within s h (go u) e =
       let w = goes-written bytes i offsets s program u e in
       omega (arith, w.few, written-steps bytes i offsets s program u w)

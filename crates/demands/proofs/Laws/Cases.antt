@@ -11,7 +11,7 @@ use native.Mathlib.Omega.{arith}
 use lib.ListN.{length, get_or, length-append}
 use Rattle.task.specs.Program.{instruction_on}
 use Rattle.task.specs.declared.index.Layout.{Layout}
-use Rattle.task.specs.declared.instruction.Decoded.TheVariants.{Is}
+use Rattle.std.specs.Prelude.{Some}
 use Rattle.task.specs.declared.instruction.Instruction.{Instruction}
 use Rattle.task.proofs.Laws.Passed.{Passed}
 use Rattle.step.specs.Position.{starting}
@@ -110,7 +110,7 @@ pub record Joined (bytes : List ℕ) (t : Layout) (lines : Frame → Instruction
 
 -- a program whose bytes hold these lines
 module _ (bytes : List ℕ) (t : Layout) (passed : Passed bytes t) (program : List ℕ) (lines : Frame → Instruction)
-    (held : (f : Frame) → Inside t.index.bounds f → instruction_on t.index program f.procedure f.line ≡ Is (lines f)) where
+    (held : (f : Frame) → Inside t.index.bounds f → instruction_on t.index program f.procedure f.line ≡ Some (lines f)) where
   -- no step follows at a position without a frame
   none_left : {r end : Running} {τ : List Visit} → Chain (Taken bytes t) lines r τ end → (s : Position) → running_of s ≡ r → (0 < s.depth → ⊥) → [] ≡ τ
   none_left heart.none s e n = refl

@@ -12,10 +12,9 @@ use lib.Seq.{take-length, take-append_seam}
 use borrow.Author.Tests.{le-leb}
 use Rattle.task.specs.Program.{program_verdict}
 use Rattle.task.specs.Reading.{read_task}
-use Rattle.task.specs.declared.verdict.Verdict.{Verdict}
-use Rattle.task.specs.declared.verdict.Verdict.TheVariants.{Accepted, Refused}
+use Rattle.task.specs.Verdict.{Verdict, Accepted, Refused}
 use Rattle.task.proofs.Laws.Verdict.{refused-accepted}
-use Rattle.checker.specs.Answer.{Answer, Result, refused, accepted, passing, filled, answer}
+use Rattle.checker.specs.Answer.{Answer, Outcome, refused, accepted, passing, filled, answer}
 use Rattle.checker.specs.Plan.{PlanStep, record_of, plan_of, plan_size}
 use Rattle.checker.specs.Questions.{PLAN-BUFFER}
 use Rattle.checker.specs.Write.{run, program_result, on_finish, write}
@@ -55,11 +54,11 @@ unfolding program_result passing
 run-result bytes program v e f = rw (e, f) refl
 
 -- a result that is accepted has come through the verdict before it
-passing-accepted : (verdict : Verdict) (rest : Result) (k : ℕ) (plan : List ℕ) → passing verdict rest ≡ accepted k plan
+passing-accepted : (verdict : Verdict) (rest : Outcome) (k : ℕ) (plan : List ℕ) → passing verdict rest ≡ accepted k plan
     → ((v : ℕ) × (verdict ≡ Accepted v)) × (rest ≡ accepted k plan)
 unfolding passing
 passing-accepted (Accepted v) rest k plan e = ((v, refl), e)
-passing-accepted (Refused question place) rest k plan e = absurd (let z : ◌≡◌ {A = ℕ} 0 1 = cc in omega arith)
+passing-accepted (Refused question place) rest k plan e = cc
 
 -- an answer that accepts comes from a task and a program that pass, and a run that is accepted
 pub record Accepting (bytes program : List ℕ) (k : ℕ) : Type 0 where
@@ -78,7 +77,7 @@ module _ (bytes program buffer : List ℕ) (k : ℕ) where
   steps-same n plan true h = cc
   steps-same n plan false h = absurd (refused-accepted h)
 
-  on-result : (result : Result) → program_result bytes program ≡ result → (on_finish buffer result).verdict ≡ Accepted k → Accepting bytes program k
+  on-result : (result : Outcome) → program_result bytes program ≡ result → (on_finish buffer result).verdict ≡ Accepted k → Accepting bytes program k
   unfolding program_result on_finish
   on-result (refused question place) e h = absurd (refused-accepted h)
   on-result (accepted n plan) e h =

@@ -4,12 +4,13 @@
 -- Assumes nothing.
 use Prim.Native.Nat.{suc}
 use mathlib.Core.Path.{◌≡◌, refl, sym, ap, ◌∙◌}
-use mathlib.Core.Bool.{Bool, true, false, cond, ◌||◌, or-false}
-use mathlib.Core.List.{List, [], ◌∷◌, ◌++◌}
+use mathlib.Core.Bool.{Bool, true, false, cond, ◌||◌, or_comm, or_assoc, or-false}
+use mathlib.Core.List.{List, [], ◌∷◌, ◌++◌, map}
 use native.Mathlib.Omega.{arith}
 use lib.Dec.{ltb}
 use lib.ListN.{length}
 use borrow.Author.Tests.{ltb-true, ltb-false, lt-ltb}
+use Rattle.std.proofs.lemmas.List.{length-map}
 use Rattle.records.proofs.Laws.Tests.{cond_either}
 use Rattle.task.specs.Instruction.{encode}
 use Rattle.task.specs.declared.instruction.Instruction.{Instruction}
@@ -30,9 +31,8 @@ unfoldable pub is_filled : Instruction → Bool
 is_filled w = ltb 0 (encode w).op
 
 -- the visits of a plan's steps
-unfoldable pub visits_of : List PlanStep → List Visit
-visits_of [] = []
-visits_of (a ∷ rest) = record { frame = a.frame; instruction = instruction_of a.step } ∷ visits_of rest
+abbrev pub visits_of : List PlanStep → List Visit
+visits_of = map (λ a. record { frame = a.frame; instruction = instruction_of a.step })
 
 -- lines that a program extends: each that is filled is the program's. It is asked of the lines that there are, which `In` says
 abbrev pub Extends : (Frame → Type 0) → (Frame → Instruction) → (Frame → Instruction) → Type 0
@@ -62,9 +62,7 @@ filled-false w h = op-empty w (omega (arith, ltb-false 0 (encode w).op h))
 
 -- the steps of some visits make these visits, and are as many
 pub visits-length : (σ : List PlanStep) → length (visits_of σ) ≡ length σ
-unfolding visits_of
-visits-length [] = refl
-visits-length (a ∷ rest) = ap suc (visits-length rest)
+visits-length σ = length-map σ _
 
 pub steps-length : (known : Frame → Bool) (τ : List Visit) → length (steps_of known τ) ≡ length τ
 unfolding steps_of
@@ -72,7 +70,7 @@ steps-length known [] = refl
 steps-length known (v ∷ rest) = ap suc (steps-length (λ f. same_frame v.frame f || known f) rest)
 
 pub chain-visits : (known : Frame → Bool) (τ : List Visit) → visits_of (steps_of known τ) ≡ τ
-unfolding steps_of visits_of instruction_of
+unfolding steps_of instruction_of
 chain-visits known [] = refl
 chain-visits known (v ∷ rest) = rw (either (known v.frame), chain-visits (λ f. same_frame v.frame f || known f) rest) refl
   where
@@ -127,9 +125,7 @@ extends-are In program lines extends g k =
     (λ h. extends g k (filled-not (lines g) h)) (filled-false (lines g))
 
 or_swap : (a b c : Bool) → ((a || b) || c) ≡ (b || (a || c))
-or_swap true true c = refl
-or_swap true false c = refl
-or_swap false b c = refl
+or_swap a b c = ap (λ (d : Bool). d || c) (or_comm a b) ∙ or_assoc b a c
 
 -- `Step f w r r'`: at frame f instruction w runs from r to r'
 module _ {R : Type 0} (Step : Frame → Instruction → R → R → Type 0) where
@@ -211,7 +207,7 @@ module _ {R : Type 0} (In : Frame → Type 0) (Step : Frame → Instruction → 
     -- the lines at the end, as a program, make the plan's visits
     pub follows-chain : {lines last : Frame → Instruction} {r end : R} {σ : List PlanStep} → Follows Step lines r σ last end
         → Chain Step last r (visits_of σ) end
-    unfolding visits_of instruction_of
+    unfolding instruction_of
     follows-chain none = none
     follows-chain (writes {lines} {f = f} {w} empty step more) =
         let here = written-here lines f w in
@@ -222,7 +218,7 @@ module _ {R : Type 0} (In : Frame → Type 0) (Step : Frame → Instruction → 
     -- the kinds of a plan's steps are the ones that its visits give
     pub follows-steps : {lines last : Frame → Instruction} {r end : R} {σ : List PlanStep} (known : Frame → Bool)
         → Knows In known lines → Follows Step lines r σ last end → σ ≡ steps_of known (visits_of σ)
-    unfolding visits_of instruction_of steps_of is_filled encode
+    unfolding instruction_of steps_of is_filled encode
     follows-steps known is none = refl
     follows-steps known is (writes {lines} {f = f} {w} empty step more) =
         let no : known f ≡ false = is f (inside _ _ _ _ step) ∙ ap is_filled empty in

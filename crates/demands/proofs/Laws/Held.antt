@@ -15,8 +15,7 @@ use Rattle.task.specs.Instruction.{decode, encode, triple_at}
 use Rattle.task.specs.Program.{line_offset, instruction_on, is_instruction, line_allowed, same_triple, preset_held}
 use Rattle.task.specs.declared.bounds.Bounds.{Bounds}
 use Rattle.task.specs.declared.index.Layout.{Layout}
-use Rattle.task.specs.declared.instruction.Decoded.{Decoded}
-use Rattle.task.specs.declared.instruction.Decoded.TheVariants.{Is, Nothing}
+use Rattle.std.specs.Prelude.{Option, Some, None}
 use Rattle.task.specs.declared.instruction.Instruction.{Instruction}
 use Rattle.task.proofs.Laws.Instruction.{decode-encode}
 use Rattle.task.proofs.Laws.Program.{Passes, line-offset}
@@ -29,12 +28,12 @@ use Rattle.demands.proofs.Laws.Presets.{LinesAllowed}
 use Rattle.demands.proofs.Laws.Program.{Holds, number, number-line, number-less, line-inside}
 
 -- what is decoded is an instruction
-decoded-is : (d : Decoded) → is_instruction d ≡ true → (w : Instruction) × (d ≡ Is w)
+decoded-is : (d : Option Instruction) → is_instruction d ≡ true → (w : Instruction) × (d ≡ Some w)
 unfolding is_instruction
-decoded-is (Is w) h = (w, refl)
-decoded-is Nothing h = absurd (let z : ◌≡◌ {A = ℕ} 0 1 = cc in omega arith)
+decoded-is (Some w) h = (w, refl)
+decoded-is None h = cc
 
-is-decoded : (d : Decoded) (w : Instruction) → d ≡ Is w → is_instruction d ≡ true
+is-decoded : (d : Option Instruction) (w : Instruction) → d ≡ Some w → is_instruction d ≡ true
 unfolding is_instruction
 is-decoded d w e = rw e
 
@@ -59,15 +58,15 @@ module _ (t : Layout) (program : List ℕ) where
   b = t.index.bounds
 
   module _ (formed : WellFormedProgram t program) where
-    pub line-held : (f : Frame) → Inside b f → instruction_on t.index program f.procedure f.line ≡ Is (instruction_at b program f)
+    pub line-held : (f : Frame) → Inside b f → instruction_on t.index program f.procedure f.line ≡ Some (instruction_at b program f)
     line-held f h =
         let d = decoded-is _ (formed.lines f h) in
-        d.1 ∙ ap Is (sym (decoded-on t.index program f.procedure f.line d.0 d.1).1)
+        d.1 ∙ ap Some (sym (decoded-on t.index program f.procedure f.line d.0 d.1).1)
 
   module _ (lines : Frame → Instruction) (holds : Holds b program lines) where
     -- bytes that hold a line are decoded to it, if it is allowed there
     pub held-decodes : LinesAllowed b t.index.actions lines → (f : Frame) → Inside b f
-        → instruction_on t.index program f.procedure f.line ≡ Is (lines f)
+        → instruction_on t.index program f.procedure f.line ≡ Some (lines f)
     unfolding instruction_on
     held-decodes allows f h = rw (holds f h) (decode-encode b t.index.actions f.line (lines f) (allows f h))
 

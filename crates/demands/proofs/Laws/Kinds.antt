@@ -66,7 +66,6 @@ follows-fits bytes t (Repeat w) fits taken more = heart.repeats fits taken more
 pub visits-step : (bytes : List ℕ) (t : Layout) {program : Frame → Instruction} {r r' end : Running} {f : Frame} (rest : List PlanStep) (step : Step)
     → program f ≡ instruction_of step → Taken bytes t f (instruction_of step) r r' → Chain (Taken bytes t) program r' (visits_of rest) end
     → Chain (Taken bytes t) program r (visits_of (record { frame = f; step = step } ∷ rest)) end
-unfolding visits_of
 visits-step bytes t rest step same taken more = heart.then same taken more
 
 -- the step on a line runs the instruction that it is given

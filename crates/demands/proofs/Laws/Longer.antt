@@ -22,7 +22,7 @@ use Rattle.task.specs.Task.{Action, Task}
 use Rattle.task.specs.TaskAt.{action_of, task_at, task_of}
 use Rattle.task.specs.declared.index.Case.{Case}
 use Rattle.task.specs.declared.index.Layout.{Layout}
-use Rattle.task.specs.declared.instruction.Decoded.TheVariants.{Is}
+use Rattle.std.specs.Prelude.{Some}
 use Rattle.task.specs.declared.instruction.Instruction.{Instruction}
 use Rattle.task.specs.declared.instruction.Instruction.TheVariants.{End}
 use Rattle.task.specs.declared.instruction.Line.{Line}
@@ -213,7 +213,7 @@ module _ (old new : List ℕ) (c : Case) (longer : Longer old new c) where
 
   -- one line of a program
   module _ (program : List ℕ) (s : Position) (below : s.case < t.index.cases) (above : 0 < s.depth) where
-    line_known : (w : Instruction) → instruction_on t.index program (top s).procedure (top s).line ≡ Is w → Known t.index w
+    line_known : (w : Instruction) → instruction_on t.index program (top s).procedure (top s).line ≡ Some w → Known t.index w
     unfolding instruction_on
     line_known w e action f =
         let allowed = allows t.index.bounds t.index.actions (top s).line w (decode-allowed t.index.bounds t.index.actions (top s).line _ w e) in
@@ -236,7 +236,7 @@ module _ (old new : List ℕ) (c : Case) (longer : Longer old new c) where
       same_w : ran.instruction ≡ w
       same_w = let e = sym ran.here ∙ m.line in cc
 
-      new_line : instruction_on u.index program (top s).procedure (top s).line ≡ Is w
+      new_line : instruction_on u.index program (top s).procedure (top s).line ≡ Some w
       new_line = same-instruction program _ _ ∙ m.line
 
       makes-on : 0 < next.depth → Makes new u.index u.offsets program s w next

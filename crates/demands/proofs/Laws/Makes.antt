@@ -14,7 +14,7 @@ use Rattle.task.specs.Instruction.{allowed}
 use Rattle.task.specs.Program.{instruction_on}
 use Rattle.task.specs.declared.index.Index.{Index}
 use Rattle.task.specs.declared.index.Layout.{Layout}
-use Rattle.task.specs.declared.instruction.Decoded.TheVariants.{Is}
+use Rattle.std.specs.Prelude.{Some}
 use Rattle.task.specs.declared.instruction.Instruction.{Instruction}
 use Rattle.task.proofs.Laws.Instruction.{decode-allowed}
 use Rattle.task.proofs.Laws.Passed.{Passed}
@@ -101,15 +101,15 @@ pub record ByRules (bytes : List ℕ) (t : Layout) (lines : Frame → Instructio
 
 -- a program whose bytes hold these lines
 module _ (bytes : List ℕ) (t : Layout) (passed : Passed bytes t) (program : List ℕ) (lines : Frame → Instruction)
-    (held : (f : Frame) → Inside t.index.bounds f → instruction_on t.index program f.procedure f.line ≡ Is (lines f)) where
+    (held : (f : Frame) → Inside t.index.bounds f → instruction_on t.index program f.procedure f.line ≡ Some (lines f)) where
   pub taken-makes : (s : Position) (left : ℕ) → Midway t.index s (suc left) → {f : Frame} {w : Instruction} {r : Running} → lines f ≡ w
       → Taken bytes t f w (running_of s) r → Made bytes t program s f w r
   unfolding run_line perform_decoded
   taken-makes s left h {f} {w} same taken =
       let deep = depth-most bytes t passed s h.standing.0 h.above in
       let x = runs-performs bytes t (stack-most bytes t passed) s h.above deep h.standing.1 taken.1 in
-      let line : instruction_on t.index program (top s).procedure (top s).line ≡ Is w =
-      rw (← x.here) (held f (may-inside bytes t f w taken.0) ∙ ap Is same) in
+      let line : instruction_on t.index program (top s).procedure (top s).line ≡ Some w =
+      rw (← x.here) (held f (may-inside bytes t f w taken.0) ∙ ap Some same) in
       record {
         here = x.here;
         next = x.to;

@@ -11,12 +11,13 @@ use native.Mathlib.Omega.{arith}
 use lib.Dec.{eqb}
 use lib.ListN.{length, take, drop, length-drop}
 use borrow.Author.Tests.{leb-true, eqb-true, eqb-false}
+use Rattle.std.proofs.lemmas.Option.{same_Some}
 use Rattle.records.specs.Numbers.{byte_at, u16_at, number_bytes}
 use Rattle.records.specs.Record.{record_at, record_bytes, closing}
-use Rattle.records.specs.declared.record.Found.TheVariants.{Record}
+use Rattle.records.specs.declared.record.Record.{Record}
+use Rattle.records.proofs.Laws.Record.{found_record, record-ends}
 use Rattle.records.proofs.Laws.Bytes.{byte-behind, record-read, body-read, rest_read, record-written, closing-written}
 use Rattle.records.proofs.Laws.Numbers.{there}
-use Rattle.records.proofs.Laws.Record.{record-ends}
 use Rattle.records.proofs.Laws.Tests.{both_true, cond_either}
 use Rattle.task.specs.Instruction.{encode, encode_for, triple_at}
 use Rattle.task.specs.declared.instruction.Instruction.{Instruction}
@@ -85,7 +86,7 @@ module _ (plan : List ℕ) where
   four-small at low high (suc (suc (suc zero))) l = let e : at + 3 ≡ at + 2 + 1 = omega arith in rw e high.1
   four-small at low high (suc (suc (suc (suc k)))) l = absurd (omega arith)
 
-  head_small : (at kind start size next : ℕ) → record_at plan at ≡ Record kind start size next → kind < 256 → size < 256
+  head_small : (at kind start size next : ℕ) → record_at plan at ≡ found_record kind start size next → kind < 256 → size < 256
       → (k : ℕ) → k < 4 → byte_at plan (at + k) < 256
   head_small at kind start size next h small few =
       let e = record-ends plan at kind start size next h in
@@ -101,7 +102,7 @@ pub record Reads (plan : List ℕ) (at : ℕ) (a : PlanStep) (rest : List ℕ) :
   pub body : ℕ
   pub size : ℕ
   pub next : ℕ
-  pub found : record_at plan at ≡ Record (kind_of a.step) body size next
+  pub found : record_at plan at ≡ found_record (kind_of a.step) body size next
   pub kind : is_kind (kind_of a.step) ≡ true
   pub fits : length_fits (kind_of a.step) size ≡ true
   pub more : eqb (kind_of a.step) 5 ≡ false
@@ -130,7 +131,7 @@ step-read plan at a rest h =
     }
 
 -- conversely: the bytes of a record that is read, of a length that fits its kind
-module _ (plan : List ℕ) (at kind body size next : ℕ) (found : record_at plan at ≡ Record kind body size next)
+module _ (plan : List ℕ) (at kind body size next : ℕ) (found : record_at plan at ≡ found_record kind body size next)
     (fits : length_fits kind size ≡ true) where
   pub step-written : is_kind kind ≡ true → eqb kind 5 ≡ false → (w : Instruction) → triple_at plan (body + 2) ≡ encode w
       → drop at plan ≡ record_of (record { frame = frame_at plan body; step = step_of kind w }) ++ drop next plan
@@ -160,9 +161,10 @@ module _ (plan : List ℕ) (at kind body size next : ℕ) (found : record_at pla
 -- what is read at an offset is one step, and one list of bytes behind it
 read-once : (plan : List ℕ) (at : ℕ) (a b : PlanStep) (l m : List ℕ) → Reads plan at a l → Reads plan at b m → (a ≡ b) × (l ≡ m)
 read-once plan at a b l m r q =
-    let k : kind_of a.step ≡ kind_of b.step = cc in
-    let body : r.body ≡ q.body = cc in
-    let next : r.next ≡ q.next = cc in
+    let e = same_Some _ _ (sym r.found ∙ q.found) in
+    let k = ap (λ (found : Record). found.kind) e in
+    let body = ap (λ (found : Record). found.body) e in
+    let next = ap (λ (found : Record). found.next) e in
     let f : a.frame ≡ b.frame = cc in
     let u = spelled-encode (instruction_of a.step) in
     let v = spelled-encode (instruction_of b.step) in

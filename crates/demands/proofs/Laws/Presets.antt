@@ -17,7 +17,7 @@ use Rattle.task.specs.declared.instruction.Instruction.{Instruction}
 use Rattle.task.specs.declared.instruction.Instruction.TheVariants.{Empty}
 use Rattle.task.specs.declared.instruction.Line.{Line}
 use Rattle.task.specs.declared.instruction.Proc.{Proc}
-use Rattle.task.specs.declared.verdict.Verdict.TheVariants.{Accepted}
+use Rattle.task.specs.Verdict.{Accepted}
 use Rattle.task.proofs.Laws.Triple.{spelled-encode}
 use Rattle.task_file.specs.WellFormed.{Every, none, also, On}
 use Rattle.task_file.proofs.Laws.Every.{every-both}

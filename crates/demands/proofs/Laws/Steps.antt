@@ -16,7 +16,7 @@ use Rattle.task.specs.Instruction.{decode_for, encode}
 use Rattle.task.specs.Program.{line_offset}
 use Rattle.task.specs.declared.bounds.Bounds.{Bounds}
 use Rattle.task.specs.declared.index.Layout.{Layout}
-use Rattle.task.specs.declared.instruction.Decoded.TheVariants.{Is}
+use Rattle.std.specs.Prelude.{Some}
 use Rattle.task.specs.declared.instruction.Instruction.{Instruction}
 use Rattle.task.specs.declared.instruction.Instruction.TheVariants.{Empty}
 use Rattle.task.specs.declared.instruction.Triple.{Triple}
@@ -78,12 +78,12 @@ module _ (bytes : List ℕ) (t : Layout) (f : Frame) (w : Instruction) where
   abbrev b : Bounds
   b = t.index.bounds
 
-  decoded-may : (x : Triple) → decode_for b t.index.actions f.procedure f.line x ≡ Is w → MayStand bytes t f w × (encode w ≡ x)
+  decoded-may : (x : Triple) → decode_for b t.index.actions f.procedure f.line x ≡ Some w → MayStand bytes t f w × (encode w ≡ x)
   decoded-may x e =
       let d = decoded-for b t.index.actions f.procedure f.line x w e in
       (record { procedure = d.procedure; allowed = d.allowed; instruction = d.nonempty }, d.encodes)
 
-  may-decoded : MayStand bytes t f w → decode_for b t.index.actions f.procedure f.line (encode w) ≡ Is w
+  may-decoded : MayStand bytes t f w → decode_for b t.index.actions f.procedure f.line (encode w) ≡ Some w
   may-decoded m = for-decoded b t.index.actions f.procedure f.line w m.procedure m.allowed m.instruction
 
   pub may-inside : MayStand bytes t f w → Inside t.index.bounds f

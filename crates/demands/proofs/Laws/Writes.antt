@@ -12,7 +12,7 @@ use Rattle.records.specs.Record.{closing}
 use Rattle.task.specs.Program.{instruction_on}
 use Rattle.task.specs.declared.bounds.Bounds.{Bounds}
 use Rattle.task.specs.declared.index.Layout.{Layout}
-use Rattle.task.specs.declared.instruction.Decoded.TheVariants.{Is}
+use Rattle.std.specs.Prelude.{Some}
 use Rattle.task.specs.declared.instruction.Instruction.{Instruction}
 use Rattle.task.proofs.Laws.Passed.{Passed}
 use Rattle.step.specs.Perform.{perform_decoded, run_line}
@@ -22,7 +22,7 @@ use Rattle.step.specs.declared.position.Frame.{Frame}
 use Rattle.step.specs.declared.position.Position.{Position}
 use Rattle.step.proofs.Laws.Perform.{steps-grow}
 use Rattle.step.proofs.Laws.Possible.{parts, depth-open, case_open}
-use Rattle.checker.specs.Answer.{Result, accepted}
+use Rattle.checker.specs.Answer.{Outcome, accepted}
 use Rattle.checker.specs.Check.{written}
 use Rattle.checker.specs.Plan.{PlanStep, instruction_of, record_of, plan_of}
 use Rattle.checker.specs.Write.{Writing, write_turn, steps_left}
@@ -63,19 +63,19 @@ pub record Ran (bytes : List ℕ) (t : Layout) (program : Frame → Instruction)
 
 -- a program whose bytes hold some lines
 module _ (bytes : List ℕ) (t : Layout) (passed : Passed bytes t) (program : List ℕ) (lines_of : Frame → Instruction)
-    (held : (f : Frame) → Inside t.index.bounds f → instruction_on t.index program f.procedure f.line ≡ Is (lines_of f)) where
+    (held : (f : Frame) → Inside t.index.bounds f → instruction_on t.index program f.procedure f.line ≡ Some (lines_of f)) where
   abbrev b : Bounds
   b = t.index.bounds
 
   -- what the run comes to from a state on
-  abbrev result : Writing → Result
+  abbrev result : Writing → Outcome
   result = run_from bytes t.index t.offsets program
 
   -- it is accepted with these steps behind those done
   abbrev AcceptedWith : Writing → List PlanStep → Type 0
   AcceptedWith s steps = result s ≡ accepted (s.position.steps + length steps) (s.plan ++ plan_of steps)
 
-  abbrev turn : Writing → Turn Writing Result
+  abbrev turn : Writing → Turn Writing Outcome
   turn = write_turn bytes t.index t.offsets program
 
   module _ (s : Writing) (lines : Frame → Instruction) (r : Running) (h : Stands t lines_of s lines r) where
@@ -110,7 +110,7 @@ module _ (bytes : List ℕ) (t : Layout) (passed : Passed bytes t) (program : Li
   module _ (s : Writing) (lines : Frame → Instruction) (r : Running) (h : Stands t lines_of s lines r) where
     -- after the last case: no step, and the closing record
     finished-ran : (k : ℕ) (plan : List ℕ) → Finished bytes t.index t.offsets s program k plan → Ran bytes t lines_of s lines r k plan
-    unfolding visits_of plan_of
+    unfolding plan_of
     finished-ran k plan f =
         let q = parts t.index s.position h.standing.0 in
         record {
@@ -128,7 +128,7 @@ module _ (bytes : List ℕ) (t : Layout) (passed : Passed bytes t) (program : Li
     -- one step in front of the rest
     written-ran : (u : Writing) (k : ℕ) (plan : List ℕ) (x : Written bytes t.index t.offsets s program u)
         → ((lines' : Frame → Instruction) (r' : Running) → Stands t lines_of u lines' r' → Ran bytes t lines_of u lines' r' k plan) → Ran bytes t lines_of s lines r k plan
-    unfolding visits_of plan_of run_line perform_decoded
+    unfolding plan_of run_line perform_decoded
     written-ran u k plan x again =
         let w = x.instruction in
         let p = s.position in
@@ -154,7 +154,7 @@ module _ (bytes : List ℕ) (t : Layout) (passed : Passed bytes t) (program : Li
         }
 
     -- by the turn that is taken, given the rest
-    turn-ran : (k : ℕ) (plan : List ℕ) (u : Turn Writing Result) → turn s ≡ u → after u result ≡ accepted k plan
+    turn-ran : (k : ℕ) (plan : List ℕ) (u : Turn Writing Outcome) → turn s ≡ u → after u result ≡ accepted k plan
         → ((v : Writing) → turn s ≡ go v → result v ≡ accepted k plan
         → (lines' : Frame → Instruction) (r' : Running) → Stands t lines_of v lines' r' → Ran bytes t lines_of v lines' r' k plan)
         → Ran bytes t lines_of s lines r k plan
@@ -212,7 +212,7 @@ module _ (bytes : List ℕ) (t : Layout) (passed : Passed bytes t) (program : Li
             to = rw same refl;
           }) in
           run-turn bytes t.index t.offsets program s
-          ∙ ap (λ (u : Turn Writing Result). after u result) goes
+          ∙ ap (λ (u : Turn Writing Outcome). after u result) goes
           ∙ again (rw same at (onward-stands s lines r h w next m y inside))
           ∙ cc (append_assoc s.plan (record_of (record { frame = top p; step = step })) (plan_of rest), more)
         where
@@ -252,10 +252,10 @@ module _ (bytes : List ℕ) (t : Layout) (passed : Passed bytes t) (program : Li
       → Agrees lines_of (visits_of steps) → end.case ≡ t.index.cases → (s : Writing) → Stands t lines_of s lines r
       → s.position.steps + length steps ≤ b.steps
       → AcceptedWith s steps
-  unfolding after plan_of visits_of instruction_of Agrees
+  unfolding after plan_of instruction_of Agrees
   followed-accepted heart.none agrees finished s h bound =
       run-turn bytes t.index t.offsets program s
-      ∙ ap (λ (u : Turn Writing Result). after u result)
+      ∙ ap (λ (u : Turn Writing Outcome). after u result)
       (finished-accepts bytes t.index t.offsets s program (s.position.steps + 0) (s.plan ++ closing)
       (record { case = omega (arith, finished, ap (λ (u : Running). u.case) h.running); count = omega arith; closed = refl }))
   followed-accepted (heart.writes {w = w} {rest} empty taken more) agrees finished s h bound =

@@ -1,30 +1,28 @@
 -- The call's answer, question by question; and the buffer: what is put before the closing record makes the file of the same task with the case added last.
 -- And what the verdict can be.
 -- Assumes nothing.
-use Prim.Native.Nat.{ℕ, zero, suc, ◌+◌, ◌-◌, ◌≤◌, ◌<◌, min}
+use Prim.Native.Nat.{ℕ, ◌+◌, ◌-◌, ◌≤◌, ◌<◌, min}
 use mathlib.Core.Path.{◌≡◌, refl, sym, ap, ◌∙◌}
 use mathlib.Core.Bool.{Bool, true, false}
-use mathlib.Core.List.{List, [], ◌∷◌, ◌++◌}
+use mathlib.Core.List.{List, ◌++◌}
 use mathlib.Core.Logic.{◌⊎◌, inl, inr}
 use native.Mathlib.Decide.{dec_lt}
 use native.Mathlib.Omega.{arith}
-use Rattle.std.proofs.Common.{length-take}
+use Rattle.std.proofs.lemmas.List.{length-take, take_min}
 use lib.ListN.{length, take, drop, length-append, get_or-eq_default}
-use lib.Seq.{sets, sets-eq, length-take-le, take_all, take-length, take-take, take-append_seam, get_or-take}
+use lib.Seq.{take-take, take-append_seam, get_or-take}
 use lib.Dec.{leb, ltb}
-use borrow.Author.Tests.{leb-true, ltb-true, lt-ltb, le-ltb, le-leb, lt-leb}
+use borrow.Author.Tests.{leb-true, ltb-true, lt-ltb, le-leb}
 use Rattle.records.specs.Numbers.{AreBytes, number_bytes}
 use Rattle.records.specs.Record.{record_bytes, closing}
 use Rattle.records.proofs.Laws.Tests.{cond_either}
 use Rattle.task.specs.Facts.{case_consistent}
 use Rattle.task.specs.Questions.{SETS}
-use Rattle.task.specs.Reading.{read_task}
+use Rattle.task.specs.Reading.{read_task, Reading}
 use Rattle.task.specs.TaskAt.{task_of}
 use Rattle.task.specs.declared.index.Case.{Case}
 use Rattle.task.specs.declared.index.Index.{Index}
-use Rattle.task.specs.declared.reading.Reading.{Reading}
-use Rattle.task.specs.declared.verdict.Verdict.{Verdict}
-use Rattle.task.specs.declared.verdict.Verdict.TheVariants.{Accepted, Refused}
+use Rattle.task.specs.Verdict.{Verdict, Accepted, Refused}
 use Rattle.task.proofs.Laws.Verdict.{refused-accepted}
 use Rattle.task_file.specs.Bytes.{pair_bytes, case_record}
 use Rattle.task_file.proofs.TaskFile.{accepted-file}
@@ -44,31 +42,22 @@ pub record Capped (buffer : List ℕ) (given size : ℕ) : Type 0 where
 -- the smaller of the two lengths
 pub smaller : (buffer : List ℕ) (given size : ℕ) → size ≡ min given (length buffer) → Capped buffer given size
 smaller buffer given size e =
-    elim (dec_lt given (length buffer)) [
-      | yes h ↦
-          let n : size ≡ given = omega arith in
-          record { part = ap (λ (n : ℕ). take n buffer) n; count = length-take-le given buffer (omega arith) ∙ sym n; most = omega arith }
-      | no m ↦
-          let n : size ≡ length buffer = omega arith in
-          let all = take_all given buffer (omega arith) in
-          record { part = ap (λ (n : ℕ). take n buffer) n ∙ take-length buffer ∙ sym all; count = ap length all ∙ sym n; most = omega arith }
-    ]
+    record {
+      part = ap (λ (n : ℕ). take n buffer) e ∙ take_min given buffer;
+      count = length-take given buffer ∙ sym e;
+      most = omega arith;
+    }
 
 -- the length that the task has
 pub own-capped : (buffer : List ℕ) (given : ℕ) → Capped buffer given (length (task_in buffer given))
 own-capped buffer given = smaller buffer given _ (length-take given buffer)
 
 -- the first part of a list of bytes
-take-most : (n : ℕ) (l : List ℕ) → length (take n l) ≤ n
-take-most zero l = omega arith
-take-most (suc n) [] = omega arith
-take-most (suc n) (x ∷ l) = omega (arith, take-most n l)
-
 pub part_bytes : (bytes : List ℕ) → AreBytes bytes → (n : ℕ) → AreBytes (take n bytes)
 part_bytes bytes are n at =
     elim (dec_lt at n) [
       | yes h ↦ rw (get_or-take n bytes at 0 h) (are at)
-      | no m ↦ rw (get_or-eq_default (take n bytes) 0 {n = at} (omega (arith, m, take-most n bytes))) (omega arith)
+      | no m ↦ rw (get_or-eq_default (take n bytes) 0 {n = at} (omega (arith, m, length-take n bytes))) (omega arith)
     ]
 
 -- a question that does not refuse said yes
@@ -82,33 +71,9 @@ module _ (i : Index) (run : Position) (spare : ℕ) (new : Case) (size : ℕ) wh
   abbrev Answers : Verdict → Type 0
   Answers v = v ≡ late_verdict i run spare new size
 
-  pub late-impossible : possible i run ≡ false → Answers (Refused POSSIBLE 0)
+  pub late-good : possible i run ≡ true → 0 < run.depth → i.cases < 32 → 28 ≤ spare → case_consistent i.bounds.facts new.start new.goal ≡ true → Answers (Accepted size)
   unfolding late_verdict asked
-  late-impossible n = rw n refl
-
-  module _ (y : possible i run ≡ true) where
-    pub late-finished : run.depth ≡ 0 → Answers (Refused UNFINISHED 0)
-    unfolding late_verdict asked
-    late-finished z = rw (y, le-ltb 0 run.depth (omega (arith, z))) refl
-
-    module _ (above : 0 < run.depth) where
-      pub late-full : 32 ≤ i.cases → Answers (Refused CASES 0)
-      unfolding late_verdict asked
-      late-full h = rw (y, lt-ltb 0 run.depth above, le-ltb i.cases 32 h) refl
-
-      module _ (few : i.cases < 32) where
-        pub late-short : spare < 28 → Answers (Refused ROOM 0)
-        unfolding late_verdict asked
-        late-short h = rw (y, lt-ltb 0 run.depth above, lt-ltb i.cases 32 few, lt-leb 28 spare h) refl
-
-        module _ (room : 28 ≤ spare) where
-          pub late-sets : case_consistent i.bounds.facts new.start new.goal ≡ false → Answers (Refused SETS 0)
-          unfolding late_verdict asked
-          late-sets n = rw (y, lt-ltb 0 run.depth above, lt-ltb i.cases 32 few, le-leb 28 spare room, n) refl
-
-          pub late-good : case_consistent i.bounds.facts new.start new.goal ≡ true → Answers (Accepted size)
-          unfolding late_verdict asked
-          late-good g = rw (y, lt-ltb 0 run.depth above, lt-ltb i.cases 32 few, le-leb 28 spare room, g) refl
+  late-good y above few room g = rw (y, lt-ltb 0 run.depth above, lt-ltb i.cases 32 few, le-leb 28 spare room, g) refl
 
   -- all of them said yes
   pub record Yes (n : ℕ) : Type 0 where
@@ -174,7 +139,8 @@ module _ (buffer : List ℕ) (given : ℕ) (new : Case) (size : ℕ) (capped : C
 
   -- what is put in place of the closing record
   pub longer-put : size + 28 ≤ length buffer
-      → sets buffer (size - 4) added ≡ longer_file buffer given new ++ drop (length (longer_file buffer given new)) buffer
+      → take (size - 4) buffer ++ added ++ drop (size - 4 + 32) buffer
+      ≡ longer_file buffer given new ++ drop (length (longer_file buffer given new)) buffer
   longer-put room =
       let at : size - 4 ≡ length parted.records = omega (arith, records-length) in
       let front : take (size - 4) buffer ≡ parted.records =
@@ -182,11 +148,8 @@ module _ (buffer : List ℕ) (given : ℕ) (new : Case) (size : ℕ) (capped : C
       ∙ ap (take (size - 4)) (capped.part ∙ parted.form)
       ∙ ap (λ (n : ℕ). take n (parted.records ++ closing)) at
       ∙ take-append_seam parted.records closing in
-      let end : size - 4 + length added ≡ length (longer_file buffer given new) = omega (arith, added-length, longer-length, records-length) in
-      sets-eq added buffer (size - 4) (omega (arith, room, added-length, records-length))
-      ∙ ap (λ (l : List ℕ). l ++ added ++ drop (size - 4 + length added) buffer) front
-      ∙ ap (λ (l : List ℕ). l ++ drop (size - 4 + length added) buffer) (sym parted.longer)
-      ∙ ap (λ (n : ℕ). longer_file buffer given new ++ drop n buffer) end
+      let end : size - 4 + 32 ≡ length (longer_file buffer given new) = omega (arith, longer-length, records-length) in
+      rw (front, end) (ap (λ (l : List ℕ). l ++ drop (length (longer_file buffer given new)) buffer) (sym parted.longer))
 
 -- the call's answer and the buffer
 module _ (buffer : List ℕ) (given : ℕ) (new : Case) (run : Position) (size : ℕ) (capped : Capped buffer given size) (r : Reading)
@@ -222,7 +185,7 @@ module _ (buffer : List ℕ) (given : ℕ) (new : Case) (run : Position) (size :
         let y = late-yes r.layout.index run (length buffer - size) new (size + 28) n (sym z ∙ e) in
         (closing-there buffer given new size capped are value passes, omega (arith, y.room, capped.most))
 
-    pub late-added : (n : ℕ) → v ≡ Accepted n → Done v (sets buffer (size - 4) (case_record new ++ closing))
+    pub late-added : (n : ℕ) → v ≡ Accepted n → Done v (take (size - 4) buffer ++ (case_record new ++ closing) ++ drop (size - 4 + 32) buffer)
     unfolding added_buffer buffer_after
     late-added n z = (answer, rw (← answer, z) (longer-put buffer given new size capped are value passes (late-room n z).1))
 

@@ -4,37 +4,24 @@
 use Prim.Native.Nat.{ℕ, suc, ◌+◌, ◌≤◌, ◌<◌, min}
 use mathlib.Core.Path.{◌≡◌, refl, ap, ◌∙◌}
 use mathlib.Core.List.{List, [], ◌∷◌, ◌++◌, append_assoc}
-use lib.ListN.{length, take, drop, get_or, set, length-append}
+use lib.ListN.{length, take, drop, get_or, length-append}
 use lib.Seq.{set-append_seam, take-nil, take-suc}
 use borrow.Author.Tests.{lt-ltb, le-ltb}
 use native.Mathlib.Numerals.{add-one}
 use native.Mathlib.Omega.{arith}
-use Rattle.listing.specs.Listing.{in_order, filled}
+use Rattle.listing.specs.Listing.{filled}
 use Rattle.listing.specs.Page.{Page, page, put, puts}
 
--- one byte where there is room
-pub put-room : (at : ℕ) (bytes : List ℕ) (byte : ℕ) → at < length bytes → page (at + 1) (set bytes at byte) ≡ puts (page at bytes) (byte ∷ [])
-unfolding puts put
-put-room at bytes byte h = simp (lt-ltb _ _ h)
-
--- one byte where the buffer is full
-pub put_full : (at : ℕ) (bytes : List ℕ) (byte : ℕ) → length bytes ≤ at → page at bytes ≡ puts (page at bytes) (byte ∷ [])
-unfolding puts put
-put_full at bytes byte h = simp (le-ltb _ _ h)
-
-puts-append : (p : Page) (xs ys : List ℕ) → puts (puts p xs) ys ≡ puts p (xs ++ ys)
-unfolding puts
-puts-append p [] ys = refl
-puts-append p (x ∷ xs) ys = puts-append (put p x) xs ys
-
 -- bytes, and then bytes
-pub put_then : (p q r : Page) (xs ys : List ℕ) → q ≡ puts p xs → r ≡ puts q ys → r ≡ puts p (xs ++ ys)
-put_then p q r xs ys first second = second ∙ ap (λ (s : Page). puts s ys) first ∙ puts-append p xs ys
+pub puts_append : (p : Page) (xs ys : List ℕ) → puts (puts p xs) ys ≡ puts p (xs ++ ys)
+unfolding puts
+puts_append p [] ys = refl
+puts_append p (x ∷ xs) ys = puts_append (put p x) xs ys
 
 -- nothing is put
-pub put-none : (p : Page) → p ≡ puts p []
+pub puts_none : (p : Page) → puts p [] ≡ p
 unfolding puts
-put-none p = refl
+puts_none p = refl
 
 -- a full page stays as it is
 full : (at : ℕ) (bytes text : List ℕ) → length bytes ≤ at → puts (page at bytes) text ≡ page at bytes
@@ -71,17 +58,5 @@ put_all buffer text =
     fills [] buffer text ∙ rw e
 
 -- a word, byte by byte
-pub put_next : (p q : Page) (word : List ℕ) (k : ℕ) → q ≡ puts p (take k word)
-    → (r : Page) → k < length word → r ≡ puts q (get_or word k 0 ∷ []) → r ≡ puts p (take (k + 1) word)
-put_next p q word k sofar r h next = rw (add-one, take-suc word k 0) (put_then p q r _ _ sofar next)
-
--- texts in order, one by one
-module _ (p q : Page) (text : ℕ → List ℕ) (k : ℕ) (sofar : q ≡ puts p (in_order text k)) where
-  pub put-one-more : (r : Page) → r ≡ puts q (text k) → r ≡ puts p (in_order text (k + 1))
-  unfolding in_order
-  put-one-more r next = rw add-one (put_then p q r _ _ sofar next)
-
-  pub put-so-many : (count : ℕ) → k ≤ count → count ≤ k → q ≡ puts p (in_order text count)
-  put-so-many count low high =
-      let e : k ≡ count = omega arith in
-      rw e at sofar
+pub puts_next : (p : Page) (word : List ℕ) (k : ℕ) → k < length word → puts (puts p (take k word)) (get_or word k 0 ∷ []) ≡ puts p (take (k + 1) word)
+puts_next p word k h = puts_append p (take k word) _ ∙ rw (add-one, take-suc word k 0)

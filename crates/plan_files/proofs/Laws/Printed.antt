@@ -15,10 +15,8 @@ use Rattle.task.proofs.Laws.Numbers.{task-said}
 use Rattle.task.proofs.Laws.Passed.{Passed, passed}
 use Rattle.task.specs.Bounds.{in_range}
 use Rattle.task.specs.Reading.{read_task}
-use Rattle.task.specs.Verdict.{number_of, value_of}
+use Rattle.task.specs.Verdict.{number_of, value_of, Verdict, Accepted, Refused}
 use Rattle.task.specs.declared.index.Index.{Index}
-use Rattle.task.specs.declared.verdict.Verdict.{Verdict}
-use Rattle.task.specs.declared.verdict.Verdict.TheVariants.{Accepted, Refused}
 use Rattle.checker.specs.Answer.{Answer}
 use Rattle.checker.specs.Check.{check}
 use Rattle.checker.proofs.Laws.Verdict.{Covers, check-has}

@@ -11,9 +11,8 @@ use lib.ListN.{length, take, drop, length-append, length-drop, take-append-drop}
 use lib.Seq.{drop-append_seam, drop-cons, drop-drop, drop-length, get_or-drop, get_or-take, length-take-le}
 use Rattle.records.specs.Numbers.{byte_at, eight_at, u16_at, u64_at, number_bytes, u16_bytes, u64_bytes}
 use Rattle.records.specs.Record.{record_at, record_bytes, closing}
-use Rattle.records.specs.declared.record.Found.TheVariants.{Record}
 use Rattle.records.proofs.Laws.Numbers.{u16-there, u64-there}
-use Rattle.records.proofs.Laws.Record.{record-there, record-ends}
+use Rattle.records.proofs.Laws.Record.{found_record, record-there, record-ends}
 
 -- what is left of a number above so many bytes
 abbrev above : ℕ → ℕ → ℕ
@@ -98,7 +97,7 @@ module _ (bytes : List ℕ) where
       unfolding record_bytes number_bytes
       body-read = sym (drop-drop 4 at bytes) ∙ ap (drop 4) h
 
-      pub record-read : kind < 2 ^ 16 → length body < 2 ^ 16 → record_at bytes at ≡ Record kind (at + 4) (length body) (at + 4 + length body)
+      pub record-read : kind < 2 ^ 16 → length body < 2 ^ 16 → record_at bytes at ≡ found_record kind (at + 4) (length body) (at + 4 + length body)
       unfolding record_bytes number_bytes
       record-read k l =
           let size = u16-read at (length body) (u16_bytes kind ++ body ++ rest) l h in
@@ -113,7 +112,7 @@ module _ (bytes : List ℕ) where
       rest_read = behind (at + 4) body rest body-read
 
     -- a record is read at the offset, and its four head bytes are below 256
-    pub record-written : (start size next : ℕ) → record_at bytes at ≡ Record kind start size next → Small at 4
+    pub record-written : (start size next : ℕ) → record_at bytes at ≡ found_record kind start size next → Small at 4
         → drop at bytes ≡ record_bytes kind (take size (drop start bytes)) ++ drop next bytes
     unfolding record_bytes number_bytes
     record-written start size next h small =
@@ -133,14 +132,14 @@ module _ (bytes : List ℕ) where
         )
 
   -- the closing record stands at the offset, and nothing behind it
-  pub closing-read : (at : ℕ) → drop at bytes ≡ closing → (record_at bytes at ≡ Record 5 (at + 4) 0 (at + 4)) × (at + 4 ≡ length bytes)
+  pub closing-read : (at : ℕ) → drop at bytes ≡ closing → (record_at bytes at ≡ found_record 5 (at + 4) 0 (at + 4)) × (at + 4 ≡ length bytes)
   unfolding closing record_bytes number_bytes
   closing-read at h = (
     rw add-zero at (record-read at 5 [] [] (h ∙ sym (append-nil _)) (omega arith) (omega arith)),
     omega (arith, length-drop at bytes, ap length h),
   )
 
-  pub closing-written : (at start next : ℕ) → record_at bytes at ≡ Record 5 start 0 next → Small at 4 → next ≡ length bytes → drop at bytes ≡ closing
+  pub closing-written : (at start next : ℕ) → record_at bytes at ≡ found_record 5 start 0 next → Small at 4 → next ≡ length bytes → drop at bytes ≡ closing
   unfolding closing
   closing-written at start next found small end = record-written at 5 start 0 next found small ∙ rw (end, drop-length bytes) (append-nil _)
 

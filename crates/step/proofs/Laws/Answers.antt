@@ -19,41 +19,40 @@ use Rattle.task.specs.declared.instruction.Line.{Line}
 use Rattle.task.specs.declared.instruction.Proc.{Proc}
 use Rattle.task.specs.declared.instruction.Instruction.{Instruction}
 use Rattle.task.specs.declared.instruction.Instruction.TheVariants.{Act, Goto, Call, End}
-use Rattle.task.specs.declared.instruction.Decoded.{Decoded}
-use Rattle.task.specs.declared.instruction.Decoded.TheVariants.{Is}
+use Rattle.std.specs.Prelude.{Option, Some, Result, Ok, Err}
 use Rattle.task.specs.Program.{instruction_on}
+use Rattle.task.specs.declared.questions.Question.{Question}
+use Rattle.task.specs.declared.questions.Question.TheVariants.{Precondition, StackFull, Goal}
 use Rattle.step.specs.Effects.{changes_of, changed}
 use Rattle.step.specs.Facts.{holds}
 use Rattle.step.specs.Moved.{moved_by, performed_as}
 use Rattle.step.specs.Perform.{act, goto, call, after_case, end, perform, perform_decoded, run_line, run_step}
 use Rattle.step.specs.Position.{top, next_case, finished, counted}
-use Rattle.step.specs.Questions.{STEPS, PRECONDITION, STACK, GOAL}
+use Rattle.step.specs.Questions.{STEPS}
 use Rattle.step.specs.declared.effects.Changes.{Changes}
-use Rattle.step.specs.declared.perform.Asked.{Asked}
-use Rattle.step.specs.declared.perform.Asked.TheVariants.{No, Facts}
 use Rattle.step.specs.declared.position.Frame.{Frame}
 use Rattle.step.specs.declared.position.Position.{Position}
 
 -- act: `h` says whether the precondition holds
 module _ (bytes : List ℕ) (at facts : ℕ) (a : ActionFront) (e : a ≡ action_at bytes at) (h : Bool) (f : h ≡ holds facts a.precondition) where
   pub act-refused : h ≡ false → (i : Index) (s : Position) (action : ℕ) → s.facts ≡ facts
-      → performed_as bytes i s (Act action) (No PRECONDITION) ≡ act bytes at s
+      → performed_as bytes i s (Act action) (Err Precondition) ≡ act bytes at s
   unfolding act performed_as
   act-refused z i s action x = ask-no _ _ _ (cc)
 
   pub act-moves : h ≡ true → (c : Changes) → c ≡ changes_of facts (effects_of bytes at) → (after : ℕ) → after ≡ changed facts c
-      → (i : Index) (s : Position) (action : ℕ) → s.facts ≡ facts → performed_as bytes i s (Act action) (Facts after) ≡ act bytes at s
+      → (i : Index) (s : Position) (action : ℕ) → s.facts ≡ facts → performed_as bytes i s (Act action) (Ok after) ≡ act bytes at s
   unfolding act performed_as moved_by
   act-moves y c g after j i s action x = cc (j, g, x) ∙ ask-yes _ _ _ (cc)
 
 module _ (stack depth : ℕ) where
   pub call-refused : stack ≤ depth → (bytes : List ℕ) (i : Index) (s : Position) (procedure : Proc) → s.depth ≡ depth
-      → performed_as bytes i s (Call procedure) (No STACK) ≡ call stack procedure s
+      → performed_as bytes i s (Call procedure) (Err StackFull) ≡ call stack procedure s
   unfolding call performed_as
   call-refused h bytes i s procedure e = ask-no _ _ _ (le-ltb s.depth stack (omega (arith, h, e)))
 
   pub call-pushes : depth < stack → (facts : ℕ) (bytes : List ℕ) (i : Index) (s : Position) (procedure : Proc) → s.depth ≡ depth
-      → performed_as bytes i s (Call procedure) (Facts facts) ≡ call stack procedure s
+      → performed_as bytes i s (Call procedure) (Ok facts) ≡ call stack procedure s
   unfolding call performed_as moved_by
   call-pushes h facts bytes i s procedure e = ask-yes _ _ _ (lt-ltb s.depth stack (omega (arith, h, e)))
 
@@ -77,10 +76,10 @@ module _ (depth : ℕ) (many one p : Position) where
 
 -- end, at a position with these facts, this case and this depth
 module _ (bytes : List ℕ) (i : Index) (facts case depth : ℕ) where
-  abbrev pub EndsAs : Asked → Type 0
+  abbrev pub EndsAs : Result ℕ Question → Type 0
   EndsAs r = (s : Position) → s.facts ≡ facts → s.case ≡ case → s.depth ≡ depth → performed_as bytes i s End r ≡ end bytes i s
 
-  pub end-pops : 1 < depth → EndsAs (Facts facts)
+  pub end-pops : 1 < depth → EndsAs (Ok facts)
   unfolding end performed_as moved_by
   end-pops h s x y z =
       let pops = lt-ltb 1 s.depth (omega (arith, h, z)) in
@@ -88,11 +87,11 @@ module _ (bytes : List ℕ) (i : Index) (facts case depth : ℕ) where
 
   -- with one frame: `g` says whether the goal holds
   module _ (l : depth ≤ 1) (x : Case) (e : x ≡ case_at bytes i.first case) (g : Bool) (f : g ≡ holds facts x.goal) where
-    pub end_refused : g ≡ false → EndsAs (No GOAL)
+    pub end_refused : g ≡ false → EndsAs (Err Goal)
     unfolding end performed_as
     end_refused z s j k m = ask-no _ _ _ (cc) ∙ cond_no _ false _ _ (sym (le-ltb 1 s.depth (omega (arith, l, m)))) refl
 
-    pub end-closes : g ≡ true → EndsAs (Facts facts)
+    pub end-closes : g ≡ true → EndsAs (Ok facts)
     unfolding end performed_as moved_by
     end-closes z s j k m =
         let last = le-ltb 1 s.depth (omega (arith, l, m)) in
@@ -103,7 +102,7 @@ module _ (bytes : List ℕ) (i : Index) (offsets : List ℕ) (s : Position) (w :
   unfolding perform
   performs-act action e = rw e
 
-  pub performs-goto : (target : Line) (fact facts : ℕ) → w ≡ Goto target fact → performed_as bytes i s w (Facts facts) ≡ perform bytes i offsets s w
+  pub performs-goto : (target : Line) (fact facts : ℕ) → w ≡ Goto target fact → performed_as bytes i s w (Ok facts) ≡ perform bytes i offsets s w
   unfolding perform goto performed_as moved_by
   performs-goto target fact facts e = rw e refl
 
@@ -117,11 +116,11 @@ module _ (bytes : List ℕ) (i : Index) (offsets : List ℕ) (s : Position) (w :
 
 -- the answer to an instruction's questions at every position with these facts, this case and this depth
 module _ (bytes : List ℕ) (i : Index) (offsets : List ℕ) (facts case depth : ℕ) where
-  abbrev Asks : Instruction → Asked → Type 0
+  abbrev Asks : Instruction → Result ℕ Question → Type 0
   Asks w r =
       (s : Position) → s.facts ≡ facts → s.case ≡ case → s.depth ≡ depth → performed_as bytes i s w r ≡ perform bytes i offsets s w
 
-  pub asks-as : (w v : Instruction) → w ≡ v → (r : Asked) → Asks v r → Asks w r
+  pub asks-as : (w v : Instruction) → w ≡ v → (r : Result ℕ Question) → Asks v r → Asks w r
   asks-as w v e r f = rw e f
 
 -- one step of a program: `f` is the top frame, `d` what stands on its line
@@ -134,11 +133,11 @@ module _ (bytes : List ℕ) (i : Index) (offsets program : List ℕ) (s : Positi
   unfolding run_step
   steps-left h = ask-yes _ _ _ (lt-ltb s.steps i.bounds.steps h)
 
-  pub line-performs : (f : Frame) → f ≡ top s → (d : Decoded) → d ≡ instruction_on i program f.procedure f.line
-      → (w : Instruction) → d ≡ Is w → perform bytes i offsets s w ≡ run_line bytes i offsets program s
+  pub line-performs : (f : Frame) → f ≡ top s → (d : Option Instruction) → d ≡ instruction_on i program f.procedure f.line
+      → (w : Instruction) → d ≡ Some w → perform bytes i offsets s w ≡ run_line bytes i offsets program s
   unfolding run_line perform_decoded
   line-performs f e d g w k = rw (← e, ← g, k)
 
-  pub line-runs : s.steps < i.bounds.steps → (f : Frame) → f ≡ top s → (d : Decoded) → d ≡ instruction_on i program f.procedure f.line
-      → (w : Instruction) → d ≡ Is w → perform bytes i offsets s w ≡ run_step bytes i offsets program s
+  pub line-runs : s.steps < i.bounds.steps → (f : Frame) → f ≡ top s → (d : Option Instruction) → d ≡ instruction_on i program f.procedure f.line
+      → (w : Instruction) → d ≡ Some w → perform bytes i offsets s w ≡ run_step bytes i offsets program s
   line-runs h f e d g w k = line-performs f e d g w k ∙ steps-left h

@@ -9,6 +9,8 @@ use native.Mathlib.Numerals.{add-one, one-add}
 use native.Mathlib.Decide.{ℕ_discrete, dec_le, le_ind}
 use native.Mathlib.Omega.{arith}
 use lib.Bits.{bit_and, bit_or, bit_xor, and_shr, and_mod, or_shr, or_mod, xor_shr, xor_mod, and_le_l, or_lt, xor_lt}
+use Rattle.std.proofs.lemmas.Nat.{and_comm, and_assoc, and-not}
+use Rattle.std.specs.Int.Bits.{and_self, xor_add_and}
 use lib.Dec.{eqb}
 use lib.Pow.{pow_pos, pow_mono, pow-add, mod-pow-add, field}
 use borrow.Author.Tests.{ne_eqb}
@@ -66,6 +68,12 @@ has-without a b f = has-xor a (bit_and a b) f ∙ ap (differ (has a f)) (has-and
 
 pub without-lt : (k a b : ℕ) → a < 2 ^ k → without a b < 2 ^ k
 without-lt k a b h = xor_lt k a (bit_and a b) h (lt_of_le_of_lt (and_le_l a b) h)
+
+-- as the code says it
+pub without-word : (a b : ℕ) → a < 2 ^ 64 → b < 2 ^ 64 → bit_and a (2 ^ 64 - 1 - b) ≡ without a b
+without-word a b h k =
+    let twice : bit_and a (bit_and a b) ≡ bit_and a b = sym (and_assoc b a a) ∙ ap (λ (n : ℕ). bit_and n b) (and_self a) in
+    omega (arith, and-not 64 b a k h, and_comm a (2 ^ 64 - 1 - b), and_comm a b, xor_add_and a (bit_and a b), twice)
 
 -- a set of facts below a number has no fact from that number on
 pub has_above : (k s f : ℕ) → s < 2 ^ k → k ≤ f → has s f ≡ false
@@ -143,6 +151,13 @@ module _ (test : ℕ → Bool) where
       let both = both_true (every n test) (test n) h in
       elim (ℕ_discrete k n) [ yes e ↦ (rw e both.1) | no e ↦ every-at n both.0 k (omega arith) ]
 
+  pub every-fails : (n k : ℕ) → k < n → test k ≡ false → false ≡ every n test
+  every-fails n k l e = of (every n test) refl
+    where
+      of : (b : Bool) → every n test ≡ b → false ≡ b
+      of true h = sym e ∙ every-at n h k l
+      of false h = refl
+
   pub every-all : (n : ℕ) → ((k : ℕ) → k < n → test k ≡ true) → every n test ≡ true
   unfolding every
   every-all zero h = refl
@@ -162,16 +177,16 @@ word_none : (w : ℕ) (test : ℕ → Bool) → w < 2 ^ 64 → ((f : ℕ) → te
 word_none w test h k = (λ i. every 64 (λ f. k f i)) ∙ every-none 64 (has w) ∙ ap (λ (x : ℕ). eqb x 0) (set-bits w 64 ∙ mod-eq_of_lt h)
 
 -- a condition holds when no fact that must be true is missing and none that must be false is there
-pub holds-word : (state : ℕ) (l : Literals) → l.positive < 2 ^ 64 → l.negative < 2 ^ 64
-    → eqb (bit_or (without l.positive state) (bit_and l.negative state)) 0 ≡ holds state l
+pub holds-word : (state : ℕ) (l : Literals) → state < 2 ^ 64 → l.positive < 2 ^ 64 → l.negative < 2 ^ 64
+    → eqb (bit_or (bit_and l.positive (2 ^ 64 - 1 - state)) (bit_and l.negative state)) 0 ≡ holds state l
 unfolding holds agrees
-holds-word state l h k =
-    sym
+holds-word state l j h k =
+    rw (without-word l.positive state h j) (sym
     (word_none _ (agrees state l)
     (or_lt 64 _ _ (without-lt 64 _ state h) (lt_of_le_of_lt (and_le_l l.negative state) k))
     (λ f.
     let bits = has-or _ _ f ∙ (λ i. has-without l.positive state f i || has-and l.negative state f i) in
-    sym (ap not bits ∙ table (has l.positive f) (has l.negative f) (has state f))))
+    sym (ap not bits ∙ table (has l.positive f) (has l.negative f) (has state f)))))
   where
     table : (p q s : Bool) → not ((p && not s) || (q && s)) ≡ ((not p || s) && (not q || not s))
     table true true true = refl

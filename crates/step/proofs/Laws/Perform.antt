@@ -21,8 +21,7 @@ use Rattle.task.specs.declared.instruction.Line.{Line}
 use Rattle.task.specs.declared.instruction.Proc.{Proc}
 use Rattle.task.specs.declared.instruction.Instruction.{Instruction}
 use Rattle.task.specs.declared.instruction.Instruction.TheVariants.{Empty, Act, Goto, Call, End}
-use Rattle.task.specs.declared.instruction.Decoded.{Decoded}
-use Rattle.task.specs.declared.instruction.Decoded.TheVariants.{Is, Nothing}
+use Rattle.std.specs.Prelude.{Option, Some, None}
 use Rattle.step.specs.Effects.{changes_of, changed}
 use Rattle.step.specs.Facts.{has, holds}
 use Rattle.step.specs.Perform.{act, goto, call, after_case, end, perform, perform_decoded, run_line, run_step}
@@ -137,9 +136,9 @@ module _ (bytes : List ℕ) (i : Index) (offsets : List ℕ) (s : Position) wher
   unfolding run_step run_line perform_decoded ask
   step-number program question h = on (ltb s.steps i.bounds.steps) (instruction_on i program (top s).procedure (top s).line) h
     where
-      on : (b : Bool) (d : Decoded) → ask b STEPS (perform_decoded bytes i offsets s d) ≡ stop question → RefusalNumber question
-      on true (Is w) k = stop-number w question k
-      on true Nothing k = let z : EMPTY ≡ question = cc in omega (arith, z)
+      on : (b : Bool) (d : Option Instruction) → ask b STEPS (perform_decoded bytes i offsets s d) ≡ stop question → RefusalNumber question
+      on true (Some w) k = stop-number w question k
+      on true None k = let z : EMPTY ≡ question = cc in omega (arith, z)
       on false d k = let z : STEPS ≡ question = cc in omega (arith, z)
 
   -- a move whose questions say yes is made, so a step is determined by them
@@ -170,16 +169,16 @@ module _ (bytes : List ℕ) (i : Index) (offsets : List ℕ) (s : Position) wher
     -- the line of a step that goes on holds an instruction, and the step is what that instruction does
     pub record Ran : Type 0 where
       pub instruction : Instruction
-      pub here : instruction_on i program (top s).procedure (top s).line ≡ Is instruction
+      pub here : instruction_on i program (top s).procedure (top s).line ≡ Some instruction
       pub does : perform bytes i offsets s instruction ≡ go t
 
     pub line-ran : run_line bytes i offsets program s ≡ go t → Ran
     unfolding run_line perform_decoded
     line-ran h = on (instruction_on i program (top s).procedure (top s).line) refl h
       where
-        on : (d : Decoded) → instruction_on i program (top s).procedure (top s).line ≡ d → perform_decoded bytes i offsets s d ≡ go t → Ran
-        on (Is w) e k = record { instruction = w; here = e; does = k }
-        on Nothing e k = absurd (stop-go k)
+        on : (d : Option Instruction) → instruction_on i program (top s).procedure (top s).line ≡ d → perform_decoded bytes i offsets s d ≡ go t → Ran
+        on (Some w) e k = record { instruction = w; here = e; does = k }
+        on None e k = absurd (stop-go k)
 
     -- a step that goes on is within the step bound, and is what its line does
     pub step-ran : run_step bytes i offsets program s ≡ go t → (s.steps < i.bounds.steps) × Ran

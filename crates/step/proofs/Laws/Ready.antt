@@ -2,7 +2,7 @@
 -- need. The bounds are in their ranges, the position is possible, and the instruction is allowed on its line.
 -- Assumes nothing.
 use Prim.Native.Nat.{ℕ, ◌+◌, ◌≤◌, ◌<◌}
-use mathlib.Core.Path.{◌≡◌}
+use mathlib.Core.Path.{◌≡◌, sym, ap}
 use mathlib.Core.Bool.{true}
 use mathlib.Core.List.{List}
 use native.Mathlib.Decide.{ℕ_discrete}
@@ -10,14 +10,15 @@ use native.Mathlib.Omega.{arith}
 use lib.ListN.{length}
 use Rattle.task.specs.declared.index.Index.{Index}
 use Rattle.task.specs.declared.index.Layout.{Layout}
-use Rattle.task.specs.declared.instruction.Decoded.TheVariants.{Is}
+use Rattle.std.specs.Prelude.{Some, Ok}
 use Rattle.task.specs.declared.instruction.Instruction.{Instruction}
 use Rattle.task.specs.declared.instruction.Instruction.TheVariants.{Act, Goto}
 use Rattle.task.specs.Instruction.{allowed}
+use Rattle.task.specs.Reading.{Reading, accepted, read_task, reading}
 use Rattle.task.specs.Program.{line_offset, instruction_on, is_instruction}
 use Rattle.task.proofs.Laws.Bounds.{ranges}
 use Rattle.task.proofs.Laws.Instruction.{Allowed, allows, allowed-line, decode-allowed}
-use Rattle.task.proofs.Laws.Passed.{Passed}
+use Rattle.task.proofs.Laws.Passed.{Passed, passed}
 use Rattle.task.proofs.Laws.Program.{program-passes, line-there, line-passes}
 use Rattle.step.specs.Head.{Fits, head_of}
 use Rattle.step.specs.Possible.{possible}
@@ -35,6 +36,11 @@ passed-held bytes t p =
       action = p.held;
       case = p.cased;
     }
+
+-- so it does as the reader of a task file answers it
+pub read-held : (bytes : List ℕ) (t : Layout) → reading (Ok t) ≡ read_task bytes → Held bytes t.index t.offsets
+unfolding reading accepted
+read-held bytes t e = passed-held bytes t (rw (ap (λ (r : Reading). r.layout) e) (passed bytes 0 (sym (ap (λ (r : Reading). r.verdict) e))))
 
 module _ (i : Index) (s : Position) where
   -- a possible position, finished or not, has at most 16 frames
@@ -69,7 +75,7 @@ module _ (i : Index) (s : Position) (program : List ℕ) (r : Runs i program s) 
   head-case = rw e (open-cases i s r.standing)
 
   -- the instruction's numbers are in their ranges
-  module _ (w : Instruction) (g : instruction_on i program h.procedure h.line ≡ Is w) where
+  module _ (w : Instruction) (g : instruction_on i program h.procedure h.line ≡ Some w) where
     head-allowed : allowed i.bounds i.actions h.line w ≡ true
     unfolding instruction_on
     head-allowed = decode-allowed _ _ _ _ w g

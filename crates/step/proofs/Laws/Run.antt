@@ -6,7 +6,7 @@ use mathlib.Core.Path.{◌≡◌, sym, ap, ◌∙◌, subst}
 use mathlib.Core.List.{List, [], ◌∷◌}
 use Rattle.task.specs.declared.index.Index.{Index}
 use Rattle.task.specs.declared.instruction.Instruction.{Instruction}
-use Rattle.task.specs.declared.instruction.Decoded.TheVariants.{Is}
+use Rattle.std.specs.Prelude.{Some}
 use Rattle.step.specs.Run.{Visit, visit, Makes, Ends, last, then}
 use Rattle.step.specs.declared.position.Position.{Position}
 
@@ -15,7 +15,7 @@ module _ (bytes : List ℕ) (i : Index) (offsets program : List ℕ) where
   makes-once : {s next other : Position} {v w : Instruction} → Makes bytes i offsets program s v next → Makes bytes i offsets program s w other
       → (v ≡ w) × (next ≡ other)
   makes-once {v = v} {w} m n =
-      let e : Is v ≡ Is w = sym m.line ∙ n.line in
+      let e : Some v ≡ Some w = sym m.line ∙ n.line in
       let f = sym m.goes ∙ n.goes in
       (cc, cc)
 

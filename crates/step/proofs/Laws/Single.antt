@@ -12,20 +12,16 @@ use borrow.Author.Tests.{eq-eqb, ne_eqb, eqb-false}
 use Rattle.records.specs.Loop.{Turn, stop, go}
 use Rattle.records.proofs.Laws.Tests.{cond_either, cond_yes, cond_no}
 use Rattle.task.specs.Program.{program_verdict}
-use Rattle.task.specs.Reading.{read_task}
-use Rattle.task.specs.Verdict.{value_of}
+use Rattle.task.specs.Reading.{read_task, Reading}
+use Rattle.task.specs.Verdict.{value_of, Verdict, Accepted, Refused}
 use Rattle.task.specs.declared.index.Index.{Index}
 use Rattle.task.specs.declared.index.Layout.{Layout}
-use Rattle.task.specs.declared.reading.Reading.{Reading}
-use Rattle.task.specs.declared.verdict.Verdict.{Verdict}
-use Rattle.task.specs.declared.verdict.Verdict.TheVariants.{Accepted, Refused}
 use Rattle.task.proofs.Laws.Passed.{Passed, passed}
 use Rattle.task.proofs.Laws.Verdict.{refused-accepted}
-use Rattle.step.specs.Perform.{run_line, run_step, unchanged, answered}
+use Rattle.step.specs.Perform.{Stepped, run_line, run_step, unchanged, answered}
 use Rattle.step.specs.Possible.{possible}
 use Rattle.step.specs.Questions.{STEPS, POSSIBLE}
 use Rattle.step.specs.Single.{following, step_once, on_reading, single_step}
-use Rattle.step.specs.declared.perform.Stepped.{Stepped}
 use Rattle.step.specs.declared.position.Position.{Position}
 use Rattle.step.proofs.Laws.Answers.{steps-used, steps-left}
 use Rattle.step.proofs.Laws.Kept.{run-possible}

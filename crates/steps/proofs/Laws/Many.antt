@@ -1,39 +1,30 @@
 -- A call for a number of steps, by what is asked first: the task's verdict, the program's, question 31. And what the call's verdict can be.
 -- Assumes nothing.
-use Prim.Native.Nat.{ℕ, zero, suc, ◌+◌, ◌≤◌}
-use mathlib.Core.Path.{◌≡◌, refl, sym, ap, ◌∙◌}
+use Prim.Native.Nat.{ℕ, zero, suc, ◌+◌, ◌≤◌, min}
+use mathlib.Core.Path.{◌≡◌, refl, ap, ◌∙◌}
 use mathlib.Core.Bool.{Bool, true, false}
 use mathlib.Core.List.{List}
-use native.Mathlib.Decide.{dec_lt}
 use native.Mathlib.Omega.{arith}
+use Rattle.std.proofs.lemmas.Grind.{common_steps}
 use lib.Dec.{eqb}
-use borrow.Author.Tests.{lt-ltb, le-ltb}
-use Rattle.records.proofs.Laws.Tests.{cond_either, cond_yes, cond_no}
+use Rattle.records.proofs.Laws.Tests.{cond_either}
 use Rattle.task.specs.Program.{program_verdict}
-use Rattle.task.specs.Reading.{read_task}
-use Rattle.task.specs.declared.reading.Reading.{Reading}
-use Rattle.task.specs.declared.verdict.Verdict.{Verdict}
-use Rattle.task.specs.declared.verdict.Verdict.TheVariants.{Accepted, Refused}
+use Rattle.task.specs.Reading.{read_task, Reading}
+use Rattle.task.specs.Verdict.{Verdict, Accepted, Refused}
 use Rattle.task.proofs.Laws.Passed.{Passed, passed}
 use Rattle.step.specs.Possible.{possible}
 use Rattle.step.specs.Questions.{POSSIBLE}
 use Rattle.step.specs.Single.{single_step}
 use Rattle.step.specs.declared.position.Position.{Position}
-use Rattle.steps.specs.Many.{capped, taken_to, onward, steps_from, many_on_reading, many_steps}
-use Rattle.steps.specs.declared.many.StepsTaken.{StepsTaken}
+use Rattle.steps.specs.Many.{StepsTaken, capped, taken_to, onward, steps_from, many_on_reading, many_steps}
 
 -- the number of steps that is asked for
-pub many-asked : (count : ℕ) → 4096 ≤ count → 4096 ≡ capped count
+pub least-asked : (count : ℕ) → min count 4096 ≡ capped count
 unfolding capped
-many-asked count l = cond_no _ false _ _ (sym (le-ltb count 4096 l)) refl
+least-asked count = grind (arith, common_steps)
 
 pub few-asked : (count : ℕ) → count ≤ 4096 → count ≡ capped count
-unfolding capped
-few-asked count l =
-    elim (dec_lt count 4096) [
-      | yes m ↦ cond_yes _ true _ _ (sym (lt-ltb count 4096 m)) refl
-      | no n ↦ let most : count ≡ 4096 = omega (arith, l, n) in most ∙ many-asked count (omega (arith, n))
-    ]
+few-asked count l = let all : count ≡ min count 4096 = omega (arith, l) in all ∙ least-asked count
 
 -- a call, given the task's reading
 module _ (bytes program : List ℕ) (count : ℕ) (s : Position) (r : Reading) (e : r ≡ read_task bytes) where

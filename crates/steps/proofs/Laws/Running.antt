@@ -3,62 +3,39 @@
 -- Assumes nothing.
 use Prim.Native.Nat.{ℕ, suc, ◌+◌, ◌-◌, ◌≤◌, ◌<◌}
 use mathlib.Core.Path.{◌≡◌, refl, sym, ap, ◌∙◌}
-use mathlib.Core.Bool.{Bool, true, false, ◌&&◌}
+use mathlib.Core.Bool.{true}
 use mathlib.Core.List.{List}
-use native.Mathlib.Decide.{ℕ_discrete, dec_lt}
+use native.Mathlib.Decide.{dec_lt}
 use native.Mathlib.Omega.{arith}
 use lib.ListN.{length, get_or, set, length-set}
 use lib.Seq.{get_or-set_same, get_or-set_other, set-get_or, set-set}
-use lib.Dec.{eqb, ltb}
-use borrow.Author.Tests.{lt-ltb, le-ltb, ltb-true, ltb-false, eqb-true, eq-eqb, ne_eqb}
-use Rattle.records.proofs.Laws.Tests.{both_true, cond_yes, cond_no}
+use borrow.Author.Tests.{le-ltb}
+use Rattle.std.specs.Prelude.{Some, Result, Ok, Err}
+use Rattle.records.specs.Loop.{Turn, stop, go}
 use Rattle.task.specs.Program.{instruction_on}
 use Rattle.task.specs.Reading.{read_task}
+use Rattle.task.specs.Verdict.{Accepted, Refused, number}
 use Rattle.task.specs.declared.index.Index.{Index}
-use Rattle.task.specs.declared.index.Layout.{Layout}
-use Rattle.task.specs.declared.instruction.Decoded.TheVariants.{Is}
 use Rattle.task.specs.declared.instruction.Instruction.{Instruction}
 use Rattle.task.specs.declared.instruction.Instruction.TheVariants.{Empty, Act, Goto, Call, End}
-use Rattle.task.specs.declared.verdict.Verdict.{Verdict}
-use Rattle.task.specs.declared.verdict.Verdict.TheVariants.{Accepted, Refused}
-use Rattle.task.proofs.Laws.Bounds.{ranges}
-use Rattle.task.proofs.Laws.Passed.{Passed, passed}
+use Rattle.task.specs.declared.questions.Question.{Question}
 use Rattle.step.specs.Head.{head_of, top_of, left_by, stored, counted_head, ended_head, moved_head}
-use Rattle.step.specs.Moved.{performed_as}
-use Rattle.step.specs.Perform.{perform, run_line, unchanged, answered}
+use Rattle.step.specs.Moved.{performed_as, line_as}
+use Rattle.step.specs.Perform.{Stepped, perform, run_line, run_step, unchanged, answered}
 use Rattle.step.specs.Position.{origin, top}
 use Rattle.step.specs.Possible.{possible}
 use Rattle.step.specs.Questions.{STEPS}
-use Rattle.step.specs.Ready.{Held, Lined, Runs}
+use Rattle.step.specs.Ready.{Bounded, Lined, Open, Runs}
 use Rattle.step.specs.Single.{step_once, single_step}
 use Rattle.step.specs.declared.head.Head.{Head}
-use Rattle.step.specs.declared.perform.Asked.{Asked}
-use Rattle.step.specs.declared.perform.Asked.TheVariants.{No, Facts}
-use Rattle.step.specs.declared.perform.Stepped.{Stepped}
 use Rattle.step.specs.declared.position.Frame.{Frame}
 use Rattle.step.specs.declared.position.Position.{Position}
-use Rattle.step.proofs.Laws.Moved.{asked-no, line_refused, line-moves}
-use Rattle.step.proofs.Laws.Perform.{stop-number}
-use Rattle.step.proofs.Laws.Possible.{parts}
-use Rattle.step.proofs.Laws.Ready.{passed-held, possible-depth}
-use Rattle.step.proofs.Laws.Single.{step-finished, step-late, step_lines, both-passed, single-possible}
-use Rattle.steps.specs.Many.{taken_to, onward, steps_from}
-use Rattle.steps.specs.Running.{over, stopped_at, Admitted}
-use Rattle.steps.specs.declared.many.StepsTaken.{StepsTaken}
-
--- the test before a step: no question said no, more steps are asked for, and there is a frame
-module _ (question steps until depth : ℕ) where
-  abbrev Test : Bool → Type 0
-  Test b = (eqb question 0 && ltb steps until && ltb 0 depth) ≡ b
-
-  pub test-passes : Test true → (question ≡ 0) × (steps < until) × (0 < depth)
-  test-passes e =
-      let z = both_true _ _ e in
-      let y = both_true _ _ z.0 in
-      (eqb-true question 0 y.0, ltb-true steps until y.1, ltb-true 0 depth z.1)
-
-  test-fails : Test false → question ≡ 0 → steps < until → depth ≡ 0
-  test-fails e z l = let none : depth ≤ 0 = ltb-false 0 depth (rw (eq-eqb question 0 z, lt-ltb steps until l) at e) in omega (arith, none)
+use Rattle.step.proofs.Laws.Answers.{steps-used, steps-left}
+use Rattle.step.proofs.Laws.Moved.{line-stops, line-goes}
+use Rattle.step.proofs.Laws.Ready.{possible-depth, open-depth}
+use Rattle.step.proofs.Laws.Single.{step-finished, step-runs, both-passed, single-possible}
+use Rattle.steps.specs.Many.{StepsTaken, taken_to, onward, steps_from}
+use Rattle.steps.specs.Running.{over, Admitted}
 
 -- a head over its frames has the head's own parts
 module _ (h : Head) (frames : List Frame) (size : length frames ≡ 16) (d : h.depth ≤ 16) where
@@ -99,18 +76,51 @@ below-unread bytes i h b c facts e End =
       | no n ↦ rw (le-ltb 1 h.depth (omega (arith, n)))
     ]
 
--- where a call stops, by the question that stops it
-module _ (from question : ℕ) (s : Position) where
-  abbrev stops : Verdict → StepsTaken
-  stops verdict = taken_to verdict (s.steps - from) s
+-- one step of a head over its frames
+module _ (i : Index) (h : Head) (frames : List Frame) (size : length frames ≡ 16) (o : Open i (over h frames)) where
+  abbrev s : Position
+  s = over h frames
 
-  pub stops-without : question ≡ 0 → stops (Accepted (s.steps - from)) ≡ stopped_at from question s
-  unfolding stopped_at
-  stops-without z = ap stops (cond_yes _ true _ _ (sym (eq-eqb question 0 z)) refl)
+  pub over-few : h.depth ≤ 16
+  unfolding over
+  over-few = open-depth i s o
 
-  pub stops-with : (question ≡ 0 → ⊥) → stops (Refused question s.steps) ≡ stopped_at from question s
-  unfolding stopped_at
-  stops-with n = ap stops (cond_no _ false _ _ (sym (ne_eqb question 0 n)) refl)
+  pub over-itself : h ≡ head_of s
+  over-itself = over-head h frames size over-few
+
+  pub over-runs : (program : List ℕ) → Lined i program → h.steps < i.bounds.steps → Runs i program s
+  unfolding over
+  over-runs program l left = record { standing = o; lined = l; left = left }
+
+  module _ (bytes offsets program : List ℕ) where
+    abbrev Makes : Turn Position ℕ → Type 0
+    Makes u = u ≡ run_step bytes i offsets program s
+
+    pub over-late : i.bounds.steps ≤ h.steps → Makes (stop STEPS)
+    unfolding over
+    over-late out = steps-used bytes i offsets program s out
+
+    -- with fewer than S steps done: the instruction on the line, and the answer to its questions
+    module _ (left : h.steps < i.bounds.steps) (w : Instruction) (g : instruction_on i program h.procedure h.line ≡ Some w) (a : Result ℕ Question)
+        (f : (v : Position) → v.facts ≡ h.facts → v.case ≡ h.case → v.depth ≡ h.depth → performed_as bytes i v w a ≡ perform bytes i offsets v w) where
+      line-makes : (u : Turn Position ℕ) → u ≡ run_line bytes i offsets program s → Makes u
+      unfolding over
+      line-makes u e = e ∙ steps-left bytes i offsets program s left
+
+      pub over-refused : (question : Question) → a ≡ Err question → Makes (stop (number question))
+      unfolding line_as
+      over-refused question k = line-makes _ (line-stops bytes i offsets program s h over-itself w g a f question k)
+
+      pub over-moves : (facts : ℕ) → a ≡ Ok facts → (b : Frame) → (1 < h.depth → b ≡ get_or frames (h.depth - 1 - 1) origin)
+          → (n : Head) → n ≡ counted_head (moved_head bytes i h b facts w) → (behind : Frame) → behind ≡ left_by h n.depth
+          → Makes (go (over n (set frames (h.depth - 1) behind)))
+      unfolding over line_as
+      over-moves facts k b y n x behind z =
+          let c = get_or s.frames (h.depth - 1 - 1) origin in
+          let moves : n ≡ counted_head (moved_head bytes i h c facts w) =
+          x ∙ ap counted_head (below-unread bytes i h b c facts (λ m. y m ∙ over_below h frames size over-few m) w) in
+          let here : over n (set frames (h.depth - 1) behind) ≡ stored h n s = sym (over-stored h frames size over-few n ∙ rw z refl) in
+          line-makes _ (line-goes bytes i offsets program s h over-itself w g a f facts k c n moves o.unfinished refl _ here)
 
 -- one more single step of those that are left
 module _ (bytes program : List ℕ) (n made : ℕ) (s : Position) where
@@ -129,172 +139,92 @@ module _ (bytes program : List ℕ) (n made : ℕ) (s : Position) where
   unfolding steps_from onward
   steps-onward u e = rw (← e)
 
--- where the loop stands: at a possible position, from which the steps that are left come to what the whole comes to
-pub record Reached (bytes : List ℕ) (i : Index) (program : List ℕ) (first : Position) (wanted : ℕ) (h : Head) (frames : List Frame) : Type 0 where
+-- where the loop stands after so many steps: at a possible position, from which the steps that are left come to what the whole comes to
+pub record Reached (bytes : List ℕ) (i : Index) (program : List ℕ) (first : Position) (wanted made : ℕ) (h : Head) (frames : List Frame) : Type 0 where
   pub size : length frames ≡ 16
   pub standing : possible i (over h frames) ≡ true
-  pub from : first.steps ≤ h.steps
-  pub most : h.steps ≤ first.steps + wanted
-  pub same : steps_from bytes program (first.steps + wanted - h.steps) (h.steps - first.steps) (over h frames) ≡ steps_from bytes program wanted 0 first
-
--- the call is refused there with this question
-abbrev pub Refuses : List ℕ → List ℕ → Position → ℕ → Head → List Frame → ℕ → Type 0
-Refuses bytes program first wanted h frames question =
-    taken_to (Refused question h.steps) (h.steps - first.steps) (over h frames) ≡ steps_from bytes program wanted 0 first
+  pub steps : h.steps ≡ first.steps + made
+  pub same : steps_from bytes program (wanted - made) made (over h frames) ≡ steps_from bytes program wanted 0 first
 
 -- task, program and position were admitted
 module _ (bytes : List ℕ) (i : Index) (offsets program : List ℕ) (first : Position) (a : Admitted bytes i offsets program first) where
-  abbrev t : Layout
-  t = (read_task bytes).layout
-
-  passes : Passed bytes t
-  passes = passed bytes a.value a.task
-
-  pub admitted-held : Held bytes i offsets
-  admitted-held = rw (← a.index, ← a.offsets) (passed-held bytes t passes)
-
-  lined : Lined i program
-  lined = record { presets = t.presets; value = a.checked; passes = a.program }
+  pub admitted-lined : Lined i program
+  admitted-lined = record { presets = (read_task bytes).layout.presets; value = a.checked; passes = a.program }
 
   once : (s : Position) → step_once bytes i offsets program s ≡ single_step bytes program s
   once s =
       rw (← a.index, ← a.offsets)
       (both-passed bytes program s (read_task bytes) refl a.value a.task _ refl a.checked (rw a.index a.program))
 
-  pub first-few : first.depth ≤ 16
-  first-few = possible-depth i first admitted-held.task a.possible
-
-  pub first-steps : first.steps ≤ 4096
-  first-steps = omega (arith, (ranges i.bounds admitted-held.task.ranges).steps.1, (parts i first a.possible).steps)
-
   module _ (wanted : ℕ) where
-    pub reached-first : (h : Head) → h ≡ head_of first → Reached bytes i program first wanted h first.frames
+    pub reached-first : length first.frames ≡ 16 → (h : Head) → h ≡ head_of first → Reached bytes i program first wanted 0 h first.frames
     unfolding head_of top_of top over
-    reached-first h e =
+    reached-first size h e =
         let here : over h first.frames ≡ first =
         rw e
         (ap (λ (fs : List Frame). record { facts = first.facts; steps = first.steps; case = first.case; depth = first.depth; frames = fs })
         (set-get_or first.frames (first.depth - 1) origin)) in
+        let all : wanted - 0 ≡ wanted = omega arith in
         let steps : h.steps ≡ first.steps = rw e in
-        let all : first.steps + wanted - h.steps ≡ wanted = omega (arith, steps) in
-        let none : h.steps - first.steps ≡ 0 = omega (arith, steps) in
-        record {
-          size = a.frames;
-          standing = rw here a.possible;
-          from = omega (arith, steps);
-          most = omega (arith, steps);
-          same = rw (here, all, none) refl;
-        }
+        record { size = size; standing = rw here a.possible; steps = omega (arith, steps); same = rw (here, all) refl }
 
-    module _ (h : Head) (frames : List Frame) (r : Reached bytes i program first wanted h frames) where
-      pub reached-few : h.depth ≤ 16
+    module _ (made : ℕ) (h : Head) (frames : List Frame) (r : Reached bytes i program first wanted made h frames) where
+      abbrev there : Position
+      there = over h frames
+
+      -- the call's answer
+      abbrev Whole : StepsTaken → Type 0
+      Whole x = x ≡ steps_from bytes program wanted 0 first
+
+      pub reached-few : Bounded i → h.depth ≤ 16
       unfolding over
-      reached-few = possible-depth i (over h frames) admitted-held.task r.standing
-
-      pub reached-head : h ≡ head_of (over h frames)
-      reached-head = over-head h frames r.size reached-few
-
-      -- the call is accepted there
-      abbrev Done : Type 0
-      Done = taken_to (Accepted (h.steps - first.steps)) (h.steps - first.steps) (over h frames) ≡ steps_from bytes program wanted 0 first
+      reached-few task = possible-depth i there task r.standing
 
       -- no step more is asked for
-      reached-all : h.steps ≡ first.steps + wanted → Done
+      pub reached-all : wanted ≤ made → Whole (taken_to (Accepted made) made there)
       unfolding steps_from
-      reached-all e = let none : first.steps + wanted - h.steps ≡ 0 = omega (arith, e) in rw none at r.same
+      reached-all e = let none : wanted - made ≡ 0 = omega (arith, e) in rw none at r.same
 
       -- a step more is asked for
-      module _ (l : h.steps < first.steps + wanted) where
-        abbrev s : Position
-        s = over h frames
-
+      module _ (l : made < wanted) where
         abbrev left : ℕ
-        left = first.steps + wanted - h.steps - 1
+        left = wanted - made - 1
 
-        more : (x : StepsTaken) → x ≡ steps_from bytes program (suc left) (h.steps - first.steps) s → x ≡ steps_from bytes program wanted 0 first
-        more x e = let back : first.steps + wanted - h.steps ≡ suc left = omega (arith, l) in e ∙ rw back at r.same
+        more : (x : StepsTaken) → x ≡ steps_from bytes program (suc left) made there → Whole x
+        more x e = let back : wanted - made ≡ suc left = omega (arith, l) in e ∙ rw back at r.same
 
-        reached-finish : h.depth ≡ 0 → Done
+        pub reached-finish : h.depth ≡ 0 → Whole (taken_to (Accepted made) made there)
         unfolding over
         reached-finish z =
-            more _ (steps-finished bytes program left _ s (step-finished bytes i offsets program s true (sym r.standing) refl z ∙ once s))
+            more _ (steps-finished bytes program left made there (step-finished bytes i offsets program there true (sym r.standing) refl z ∙ once there))
 
         -- with a frame
         module _ (above : 0 < h.depth) where
-          open-frame : s.depth ≡ 0 → ⊥
+          pub reached-open : Bounded i → Open i there
           unfolding over
-          open-frame z = absurd (omega (arith, above, z))
+          reached-open task = record { task = task; possible = r.standing; unfinished = above }
 
-          pub reached-late : i.bounds.steps ≤ h.steps → Refuses bytes program first wanted h frames STEPS
+          single : (u : Turn Position ℕ) → u ≡ run_step bytes i offsets program there → answered there u ≡ single_step bytes program there
           unfolding over
-          reached-late out =
-              more _
-              (steps-refused bytes program left _ s STEPS _ (step-late bytes i offsets program s true (sym r.standing) refl open-frame out ∙ once s))
+          single u e = ap (answered there) e ∙ step-runs bytes i offsets program there true (sym r.standing) refl (λ z. absurd (omega (arith, above, z))) ∙ once there
 
-          -- and fewer than S steps done
-          module _ (below : h.steps < i.bounds.steps) where
-            pub reached-runs : Runs i program s
-            unfolding over
-            reached-runs =
-                record { standing = record { task = admitted-held.task; possible = r.standing; unfinished = above }; lined = lined; left = below }
+          pub reached-no : (question : Question) → stop (number question) ≡ run_step bytes i offsets program there
+              → Whole (taken_to (Refused (number question) h.steps) made there)
+          unfolding over answered
+          reached-no question e = more _ (steps-refused bytes program left made there (number question) _ (single _ e))
 
-            answers : (x : Stepped) → x ≡ answered s (run_line bytes i offsets program s) → x ≡ single_step bytes program s
-            unfolding over
-            answers x e = step_lines bytes i offsets program s true (sym r.standing) refl open-frame below x e ∙ once s
-
-            module _ (w : Instruction) (g : instruction_on i program h.procedure h.line ≡ Is w) (asked : Asked)
-                (f : (v : Position) → v.facts ≡ h.facts → v.case ≡ h.case → v.depth ≡ h.depth
-                → performed_as bytes i v w asked ≡ perform bytes i offsets v w) where
-              pub reached-no : (question : ℕ) → asked ≡ No question → (0 < question) × Refuses bytes program first wanted h frames question
-              unfolding over unchanged
-              reached-no question k =
-                  let stopped = asked-no bytes i offsets s w asked (f s refl refl refl) question k in (
-                    (stop-number bytes i offsets s w question (sym stopped)).0,
-                    more _
-                        (steps-refused bytes program left _ s question _
-                        (answers _ (line_refused bytes i offsets program s h reached-head w g asked f question k))),
-                  )
-
-              pub reached-next : (facts : ℕ) → asked ≡ Facts facts → (b : Frame) → (1 < h.depth → b ≡ get_or frames (h.depth - 1 - 1) origin)
-                  → (n : Head) → n ≡ counted_head (moved_head bytes i h b facts w) → (behind : Frame) → behind ≡ left_by h n.depth
-                  → Reached bytes i program first wanted n (set frames (h.depth - 1) behind) × (n.steps ≡ h.steps + 1)
-              unfolding over
-              reached-next facts k b y n x behind z =
-                  let c = get_or s.frames (s.depth - 1 - 1) origin in
-                  let moves : n ≡ counted_head (moved_head bytes i h c facts w) =
-                  x ∙ ap counted_head (below-unread bytes i h b c facts (λ m. y m ∙ over_below h frames r.size reached-few m) w) in
-                  let u = over n (set frames (h.depth - 1) behind) in
-                  let here : u ≡ stored h n s = sym (over-stored h frames r.size reached-few n ∙ rw z refl) in
-                  let made : ◌≡◌ {A = Stepped} (record { verdict = Accepted 1; position = u }) (single_step bytes program s) =
-                  answers _ (line-moves bytes i offsets program s h reached-head w g asked f facts k c n moves above refl u here) in
-                  let room : length s.frames ≡ 16 = length-set frames (h.depth - 1) (top_of h) ∙ r.size in
-                  let kept = single-possible bytes program s room (sym (ap (λ (q : Stepped). q.verdict) made)) in
-                  let there : (single_step bytes program s).position ≡ u = sym (ap (λ (q : Stepped). q.position) made) in
-                  let steps : n.steps ≡ h.steps + 1 = rw there at kept.2 in
-                  let fewer : first.steps + wanted - n.steps ≡ left = omega (arith, steps) in
-                  let done : n.steps - first.steps ≡ h.steps - first.steps + 1 = omega (arith, steps, r.from) in (
-                    record {
-                      size = length-set frames (h.depth - 1) behind ∙ r.size;
-                      standing = rw (there, a.index) at kept.0;
-                      from = omega (arith, steps, r.from);
-                      most = omega (arith, steps, l);
-                      same = more _ (rw (fewer, done) (steps-onward bytes program left _ s u made));
-                    },
-                    steps,
-                  )
-
-      -- the call stops there: a question said no, or the test before a step fails
-      pub reached-stopped : (question : ℕ) → (0 < question → Refuses bytes program first wanted h frames question)
-          → Test question h.steps (first.steps + wanted) h.depth false
-          → stopped_at first.steps question (over h frames) ≡ steps_from bytes program wanted 0 first
-      unfolding over
-      reached-stopped question refused fails =
-          elim (ℕ_discrete question 0) [
-            | no n ↦ sym (stops-with first.steps question (over h frames) n) ∙ refused (omega (arith, n))
-            | yes z ↦
-                sym (stops-without first.steps question (over h frames) z)
-                ∙ elim (dec_lt h.steps (first.steps + wanted)) [
-                  | yes l ↦ reached-finish l (test-fails question h.steps (first.steps + wanted) h.depth fails z l)
-                  | no n ↦ reached-all (omega (arith, n, r.most))
-                ]
-          ]
+          pub reached-next : (n : Head) (after : List Frame) → go (over n after) ≡ run_step bytes i offsets program there
+              → Reached bytes i program first wanted (made + 1) n after
+          unfolding over answered
+          reached-next n after e =
+              let u = over n after in
+              let step : ◌≡◌ {A = Stepped} (record { verdict = Accepted 1; position = u }) (single_step bytes program there) = single _ e in
+              let kept = single-possible bytes program there (length-set frames (h.depth - 1) (top_of h) ∙ r.size) (sym (ap (λ (q : Stepped). q.verdict) step)) in
+              let moved : (single_step bytes program there).position ≡ u = sym (ap (λ (q : Stepped). q.position) step) in
+              let fewer : wanted - (made + 1) ≡ left = omega (arith, l) in
+              record {
+                size = sym (length-set after (n.depth - 1) (top_of n)) ∙ rw moved at kept.1;
+                standing = rw (moved, a.index) at kept.0;
+                steps = let one : n.steps ≡ h.steps + 1 = rw moved at kept.2 in omega (arith, one, r.steps);
+                same = more _ (rw fewer (steps-onward bytes program left made there u step));
+              }

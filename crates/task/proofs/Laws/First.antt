@@ -6,6 +6,8 @@ use mathlib.Core.Path.{◌≡◌, refl, sym, ap, ◌∙◌}
 use mathlib.Core.Bool.{Bool, true, false, cond}
 use native.Mathlib.Numerals.{add-one}
 use native.Mathlib.Omega.{arith}
+use lib.Dec.{ltb}
+use borrow.Author.Tests.{ltb-true, ltb-false}
 use Rattle.records.proofs.Laws.Tests.{cond_either}
 use Rattle.task.specs.First.{first_no_from, first_no}
 
@@ -39,6 +41,22 @@ module _ (test : ℕ → Bool) (count : ℕ) where
     found_none h =
         let e : count - k ≡ 0 = omega arith in
         sym (rw e) ∙ s.found
+
+    -- a loop that comes to its end has passed every place
+    pub all_passed : count ≤ k → count ≡ first_no test count
+    all_passed h = let e : count ≡ k = omega (arith, s.below) in e ∙ found_none h
+
+-- the place before which the test says yes, and at which it says no, is what the search finds; and so is the number of places, where it never says no
+pub found-at : (test : ℕ → Bool) (count r : ℕ) → r ≤ count → ((k : ℕ) → k < r → test k ≡ true) → (r < count → test r ≡ false) → r ≡ first_no test count
+found-at test count r within before found = by (ltb r count) refl
+  where
+    goes_on : (k : ℕ) → k ≤ r → Searching test count k
+    goes_on zero h = searching test count
+    goes_on (suc k) h = rw add-one at (found-yes test count k (goes_on k (omega arith)) (omega arith) (before k (omega arith)))
+
+    by : (b : Bool) → ltb r count ≡ b → r ≡ first_no test count
+    by true e = let l = ltb-true r count e in found-no test count r (goes_on r (omega arith)) l (found l)
+    by false e = found_none test count r (goes_on r (omega arith)) (ltb-false r count e)
 
 -- the search ends within the places
 pub found-most : (test : ℕ → Bool) (count : ℕ) → first_no test count ≤ count

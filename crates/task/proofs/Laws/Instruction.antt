@@ -20,51 +20,50 @@ use Rattle.task.specs.declared.instruction.Proc.{Proc}
 use Rattle.task.specs.declared.instruction.Triple.{Triple}
 use Rattle.task.specs.declared.instruction.Instruction.{Instruction}
 use Rattle.task.specs.declared.instruction.Instruction.TheVariants.{Empty, Act, Goto, Call, End}
-use Rattle.task.specs.declared.instruction.Decoded.{Decoded}
-use Rattle.task.specs.declared.instruction.Decoded.TheVariants.{Is, Nothing}
+use Rattle.std.specs.Prelude.{Option, Some, None}
 
-apart : (w : Instruction) → Is w ≡ Nothing → ⊥
+apart : (w : Instruction) → Some w ≡ None → ⊥
 apart w h = let z : ◌≡◌ {A = ℕ} 0 1 = cc in omega arith
 
 -- an instruction that is kept: the condition holds
-pub keep-is : (t : Bool) (d : Decoded) (w : Instruction) → keep t d ≡ Is w → (t ≡ true) × (d ≡ Is w)
+pub keep-is : (t : Bool) (d : Option Instruction) (w : Instruction) → keep t d ≡ Some w → (t ≡ true) × (d ≡ Some w)
 unfolding keep
 keep-is true d w h = (refl, h)
 keep-is false d w h = absurd (apart w (sym h))
 
-keep-yes : (t : Bool) (d : Decoded) → t ≡ true → d ≡ keep t d
+keep-yes : (t : Bool) (d : Option Instruction) → t ≡ true → d ≡ keep t d
 unfolding keep
 keep-yes t d h = rw h
 
 -- whether an instruction is kept
-keep-test : (t : Bool) (d : Decoded) → (t && is_instruction d) ≡ is_instruction (keep t d)
+keep-test : (t : Bool) (d : Option Instruction) → (t && is_instruction d) ≡ is_instruction (keep t d)
 unfolding keep is_instruction
 keep-test true d = refl
 keep-test false d = refl
 
-keeps-test : (zeros ok : Bool) (w : Instruction) → (zeros && ok) ≡ is_instruction (keep zeros (keep ok (Is w)))
+keeps-test : (zeros ok : Bool) (w : Instruction) → (zeros && ok) ≡ is_instruction (keep zeros (keep ok (Some w)))
 unfolding keep is_instruction
 keeps-test true true w = refl
 keeps-test true false w = refl
 keeps-test false ok w = refl
 
-kept-is : (t : Bool) (d : Decoded) → is_instruction (keep t d) ≡ true → is_instruction d ≡ true
+kept-is : (t : Bool) (d : Option Instruction) → is_instruction (keep t d) ≡ true → is_instruction d ≡ true
 unfolding keep is_instruction
 kept-is true d h = h
 kept-is false d h = absurd (false≢true h)
 
-pub not-instruction : (d : Decoded) → is_instruction d ≡ false → d ≡ Nothing
+pub not-instruction : (d : Option Instruction) → is_instruction d ≡ false → d ≡ None
 unfolding is_instruction
-not-instruction (Is w) h = absurd (false≢true (sym h))
-not-instruction Nothing h = refl
+not-instruction (Some w) h = absurd (false≢true (sym h))
+not-instruction None h = refl
 
-pub instruction-is : (d : Decoded) → is_instruction d ≡ true → (w : Instruction) × (d ≡ Is w)
+pub instruction-is : (d : Option Instruction) → is_instruction d ≡ true → (w : Instruction) × (d ≡ Some w)
 unfolding is_instruction
-instruction-is (Is w) h = (w, refl)
-instruction-is Nothing h = absurd (false≢true h)
+instruction-is (Some w) h = (w, refl)
+instruction-is None h = absurd (false≢true h)
 
 -- an op above 4 spells none
-pub spelled-other : (w : Triple) → 5 ≤ w.op → spelled w ≡ Nothing
+pub spelled-other : (w : Triple) → 5 ≤ w.op → spelled w ≡ None
 unfolding spelled
 spelled-other w h =
     simp (
@@ -76,7 +75,7 @@ spelled-other w h =
     )
 
 module _ (b : Bounds) (actions : ℕ) (line : Line) where
-  line-keep : (t : Bool) (w : Instruction) → keep t (keep (allowed b actions line w) (Is w)) ≡ where_allowed b actions line (keep t (Is w))
+  line-keep : (t : Bool) (w : Instruction) → keep t (keep (allowed b actions line w) (Some w)) ≡ where_allowed b actions line (keep t (Some w))
   unfolding where_allowed keep
   line-keep true w = refl
   line-keep false w = refl
@@ -122,18 +121,18 @@ module _ (b : Bounds) (actions : ℕ) (line : Line) where
     unfolding decode where_allowed is_instruction keep
     decode-keeps = by (spelled w)
       where
-        on : (v : Instruction) (t : Bool) → keep (is_instruction (keep t (Is v))) (Is v) ≡ keep t (Is v)
+        on : (v : Instruction) (t : Bool) → keep (is_instruction (keep t (Some v))) (Some v) ≡ keep t (Some v)
         on v true = refl
         on v false = refl
 
-        by : (d : Decoded) → keep (is_instruction (where_allowed b actions line d)) d ≡ where_allowed b actions line d
-        by (Is v) = on v (allowed b actions line v)
-        by Nothing = refl
+        by : (d : Option Instruction) → keep (is_instruction (where_allowed b actions line d)) d ≡ where_allowed b actions line d
+        by (Some v) = on v (allowed b actions line v)
+        by None = refl
 
     pub decode-spells : is_instruction (decode b actions line w) ≡ true → is_instruction (spelled w) ≡ true
     decode-spells h = kept-is _ _ (ap is_instruction decode-keeps ∙ h)
 
-    pub decode_is : (v : Instruction) → is_instruction (decode b actions line w) ≡ true → spelled w ≡ Is v → Is v ≡ decode b actions line w
+    pub decode_is : (v : Instruction) → is_instruction (decode b actions line w) ≡ true → spelled w ≡ Some v → Some v ≡ decode b actions line w
     decode_is v h e = sym e ∙ keep-yes _ _ h ∙ decode-keeps
 
   -- what is asked of an instruction on a line, in words
@@ -161,20 +160,20 @@ module _ (b : Bounds) (actions : ℕ) (line : Line) where
       let k = both_true (leb 1 line.0) _ h in
       (leb-true 1 line.0 k.0, leb-true line.0 b.last k.1)
 
-  where-allowed : (d : Decoded) (w : Instruction) → where_allowed b actions line d ≡ Is w → allowed b actions line w ≡ true
+  where-allowed : (d : Option Instruction) (w : Instruction) → where_allowed b actions line d ≡ Some w → allowed b actions line w ≡ true
   unfolding where_allowed
-  where-allowed (Is v) w h =
-      let k = keep-is (allowed b actions line v) (Is v) w h in
+  where-allowed (Some v) w h =
+      let k = keep-is (allowed b actions line v) (Some v) w h in
       let e : v ≡ w = cc k.1 in
       rw e at k.0
-  where-allowed Nothing w h = absurd (apart w (sym h))
+  where-allowed None w h = absurd (apart w (sym h))
 
   -- an instruction that was decoded on a line is allowed there
-  pub decode-allowed : (t : Triple) (w : Instruction) → decode b actions line t ≡ Is w → allowed b actions line w ≡ true
+  pub decode-allowed : (t : Triple) (w : Instruction) → decode b actions line t ≡ Some w → allowed b actions line w ≡ true
   unfolding decode
   decode-allowed t w h = where-allowed (spelled t) w h
 
-  pub decode-encode : (w : Instruction) → allowed b actions line w ≡ true → decode b actions line (encode w) ≡ Is w
+  pub decode-encode : (w : Instruction) → allowed b actions line w ≡ true → decode b actions line (encode w) ≡ Some w
   unfolding decode spelled where_allowed encode keep
   decode-encode Empty h = simp h
   decode-encode (Act action) h = simp h
@@ -187,10 +186,10 @@ pub triple-is : {v w : Triple} → v.op ≡ w.op → v.p ≡ w.p → v.q ≡ w.q
 triple-is e f g = λ i. record { op = e i; p = f i; q = g i }
 
 -- the bytes of an instruction that three bytes spell are those three
-module _ (t : Triple) (w : Instruction) (h : spelled t ≡ Is w) where
-  spelled_by : (zeros : Bool) (v : Instruction) → spelled t ≡ keep zeros (Is v) → (zeros ≡ true) × (v ≡ w)
+module _ (t : Triple) (w : Instruction) (h : spelled t ≡ Some w) where
+  spelled_by : (zeros : Bool) (v : Instruction) → spelled t ≡ keep zeros (Some v) → (zeros ≡ true) × (v ≡ w)
   spelled_by zeros v e =
-      let k = keep-is zeros (Is v) w (sym e ∙ h) in
+      let k = keep-is zeros (Some v) w (sym e ∙ h) in
       let i : v ≡ w = cc k.1 in
       (k.0, i)
 
@@ -218,14 +217,14 @@ module _ (t : Triple) (w : Instruction) (h : spelled t ≡ Is w) where
   pub encode-spelled : encode w ≡ t
   encode-spelled = by-op t.op refl
 
-where-spelled : (b : Bounds) (actions : ℕ) (line : Line) (d : Decoded) (w : Instruction) → where_allowed b actions line d ≡ Is w → d ≡ Is w
+where-spelled : (b : Bounds) (actions : ℕ) (line : Line) (d : Option Instruction) (w : Instruction) → where_allowed b actions line d ≡ Some w → d ≡ Some w
 unfolding where_allowed
-where-spelled b actions line (Is v) w h = (keep-is (allowed b actions line v) (Is v) w h).1
-where-spelled b actions line Nothing w h = h
+where-spelled b actions line (Some v) w h = (keep-is (allowed b actions line v) (Some v) w h).1
+where-spelled b actions line None w h = h
 
 -- an instruction that was decoded on a line is what the line's bytes spell, and has these bytes
-module _ (b : Bounds) (actions : ℕ) (line : Line) (t : Triple) (w : Instruction) (h : decode b actions line t ≡ Is w) where
-  pub decode-spelled : spelled t ≡ Is w
+module _ (b : Bounds) (actions : ℕ) (line : Line) (t : Triple) (w : Instruction) (h : decode b actions line t ≡ Some w) where
+  pub decode-spelled : spelled t ≡ Some w
   unfolding decode
   decode-spelled = where-spelled b actions line (spelled t) w h
 
@@ -268,7 +267,7 @@ pub record DecodedFor (b : Bounds) (actions : ℕ) (j : Proc) (l : Line) (t : Tr
   pub encodes : encode w ≡ t
   pub allowed : allowed b actions l w ≡ true
 
-pub decoded-for : (b : Bounds) (actions : ℕ) (j : Proc) (l : Line) (t : Triple) (w : Instruction) → decode_for b actions j l t ≡ Is w
+pub decoded-for : (b : Bounds) (actions : ℕ) (j : Proc) (l : Line) (t : Triple) (w : Instruction) → decode_for b actions j l t ≡ Some w
     → DecodedFor b actions j l t w
 unfolding decode_for encode
 decoded-for b actions j l t w h =
@@ -286,7 +285,7 @@ decoded-for b actions j l t w h =
 
 -- conversely, they let its bytes pass, and decode it
 pub for-decoded : (b : Bounds) (actions : ℕ) (j : Proc) (l : Line) (w : Instruction) → j.0 < b.procedures → allowed b actions l w ≡ true → (w ≡ Empty → ⊥)
-    → decode_for b actions j l (encode w) ≡ Is w
+    → decode_for b actions j l (encode w) ≡ Some w
 unfolding decode_for
 for-decoded b actions j l w h k n =
     sym (keep-yes _ _ (simp (lt-ltb j.0 b.procedures h, lt-ltb 0 (encode w).op (op-above w n)))) ∙ decode-encode b actions l w k

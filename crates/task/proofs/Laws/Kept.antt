@@ -11,19 +11,18 @@ use lib.Dec.{leb, eqb}
 use borrow.Author.Tests.{leb-true, le-leb, eqb-true, eqb-false, eq-eqb}
 use Rattle.records.specs.Loop.{Turn, ask}
 use Rattle.records.specs.Record.{record_at}
-use Rattle.records.specs.declared.record.Found.{Found}
-use Rattle.records.specs.declared.record.Found.TheVariants.{Record, Missing}
+use Rattle.std.specs.Prelude.{Option, Some, None}
+use Rattle.records.specs.declared.record.Record.{Record}
+use Rattle.records.proofs.Laws.Record.{found_record, record-ends}
 use Rattle.records.proofs.Laws.Loop.{Keeps, ask-keeps, loop-keeps}
-use Rattle.records.proofs.Laws.Record.{record-ends}
 use Rattle.records.proofs.Laws.Tests.{both_true}
 use Rattle.task.proofs.Laws.Bounds.{between-true}
 use Rattle.task.proofs.Laws.Verdict.{refused-accepted}
 use Rattle.task.specs.Bounds.{between}
 use Rattle.task.specs.Questions.{WHOLE, KIND, LENGTH}
-use Rattle.task.specs.Reading.{State, begin, refused, may_stand, by_kind, length_fits, header_turn, action_turn, preset_turn, case_turn, close_turn, kind_turn, on_record, turn_of, left, read_task}
+use Rattle.task.specs.Reading.{State, begin, refused, may_stand, by_kind, length_fits, header_turn, action_turn, preset_turn, case_turn, close_turn, kind_turn, on_record, turn_of, left, read_task, Reading}
 use Rattle.task.specs.declared.index.Layout.{Layout}
-use Rattle.task.specs.declared.reading.Reading.{Reading}
-use Rattle.task.specs.declared.verdict.Verdict.TheVariants.{Accepted}
+use Rattle.task.specs.Verdict.{Accepted}
 
 -- the least and the greatest kind that may stand after a kind, or at the start
 abbrev pub least : ℕ → ℕ
@@ -53,6 +52,14 @@ follows last kind h =
     by false false false true t = omega (arith, between-true 4 kind 5 t)
     by false false false false t = omega (arith, eqb-true kind 1 t)
 
+-- so question 2 lets none but the five kinds pass
+pub may-stand-known : (last kind : ℕ) → (kind ≡ 1 → ⊥) → (kind ≡ 2 → ⊥) → (kind ≡ 3 → ⊥) → (kind ≡ 4 → ⊥) → (kind ≡ 5 → ⊥) → may_stand last kind ≡ false
+may-stand-known last kind a b c d e = by (may_stand last kind) refl
+  where
+    by : (t : Bool) → may_stand last kind ≡ t → t ≡ false
+    by true h = let k = (follows last kind h).known in absurd (omega (arith, a, b, c, d, e))
+    by false h = refl
+
 -- conversely, question 2 lets a kind pass from the least to the greatest
 pub may-stand : (last kind : ℕ) → least last ≤ kind → kind ≤ greatest last → may_stand last kind ≡ true
 unfolding may_stand by_kind
@@ -71,7 +78,7 @@ may-stand last kind l g = by (eqb last 1) (eqb last 2) (eqb last 3) (eqb last 4)
 
 -- a record of a kind and a length stands, all of it, at the reading's offset
 abbrev pub There : List ℕ → State → ℕ → ℕ → Type 0
-There bytes s kind size = record_at bytes s.progress.at ≡ Record kind (s.progress.at + 4) size (s.progress.at + (4 + size))
+There bytes s kind size = record_at bytes s.progress.at ≡ found_record kind (s.progress.at + 4) size (s.progress.at + (4 + size))
 
 -- what is to be shown of a state: of a refusal at its offset with a task's question, and of the turn of each kind that may stand there, its record as long as
 -- question 3 asks
@@ -107,7 +114,7 @@ module _ (P : State → Type 0) (Q : Reading → Type 0) where
 
   module _ (bytes : List ℕ) where
     -- the record that the kind's turn reads: its body begins after its head, and the next record where the body ends
-    record-keeps : (s : State) → Kinds P Q bytes s → (kind body size next : ℕ) → record_at bytes s.progress.at ≡ Record kind body size next
+    record-keeps : (s : State) → Kinds P Q bytes s → (kind body size next : ℕ) → record_at bytes s.progress.at ≡ found_record kind body size next
         → Follows s.progress.last kind → length_fits kind size ≡ true → Keeps P Q (kind_turn bytes s kind body size next)
     unfolding kind_turn
     record-keeps s k kind body size next e f l =
@@ -122,13 +129,13 @@ module _ (P : State → Type 0) (Q : Reading → Type 0) where
         (λ i z. rw (b, n 24 z) (k.case (rw i at f) (there 4 24 i z)))
         (λ i z. rw (n 0 z) (k.close (rw i at f) (there 5 0 i z)))
 
-    found-keeps : (s : State) → Kinds P Q bytes s → (f : Found) → record_at bytes s.progress.at ≡ f → Keeps P Q (on_record bytes s f)
+    found-keeps : (s : State) → Kinds P Q bytes s → (f : Option Record) → record_at bytes s.progress.at ≡ f → Keeps P Q (on_record bytes s f)
     unfolding on_record
-    found-keeps s k Missing e = k.refusal WHOLE (omega arith)
-    found-keeps s k (Record kind body size next) e =
+    found-keeps s k None e = k.refusal WHOLE (omega arith)
+    found-keeps s k (Some r) e =
         ask-keeps P Q _ _ _ (k.refusal KIND (omega arith)) λ h.
         ask-keeps P Q _ _ _ (k.refusal LENGTH (omega arith)) λ l.
-        record-keeps s k kind body size next e (follows s.progress.last kind h) l
+        record-keeps s k r.kind r.body r.length r.next e (follows s.progress.last r.kind h) l
 
     pub turn-keeps : (s : State) → Kinds P Q bytes s → Keeps P Q (turn_of bytes s)
     unfolding turn_of

@@ -9,11 +9,10 @@ use Rattle.records.specs.Loop.{Turn}
 use Rattle.records.proofs.Laws.Loop.{Keeps, ask-keeps}
 use Rattle.records.proofs.Laws.Record.{record-ends}
 use Rattle.task.proofs.Laws.Kept.{There, Kinds, reading-keeps}
-use Rattle.task.specs.Reading.{State, begin, refused, accepted, header_turn, action_turn, on_preset, preset_turn, case_turn, close_turn, read_task}
+use Rattle.task.specs.Reading.{State, begin, refused, accepted, header_turn, action_turn, on_preset, preset_turn, case_turn, close_turn, read_task, Reading}
 use Rattle.task.specs.Verdict.{number_of, value_of}
-use Rattle.task.specs.declared.instruction.Decoded.{Decoded}
-use Rattle.task.specs.declared.instruction.Decoded.TheVariants.{Is, Nothing}
-use Rattle.task.specs.declared.reading.Reading.{Reading}
+use Rattle.std.specs.Prelude.{Option, Some, None}
+use Rattle.task.specs.declared.instruction.Instruction.{Instruction}
 
 module _ (bytes : List ℕ) where
   -- a reading that is still in the file, and its answer
@@ -39,10 +38,10 @@ module _ (bytes : List ℕ) where
     unfolding action_turn
     action-said = ask-keeps In Said _ _ _ (no _ _ (omega arith) here) (λ e. ask-keeps In Said _ _ _ (no _ _ (omega arith) here) (λ f. ends))
 
-    decoded-said : (d : Decoded) → Kept (on_preset bytes s body next d)
+    decoded-said : (d : Option Instruction) → Kept (on_preset bytes s body next d)
     unfolding on_preset
-    decoded-said Nothing = no _ _ (omega arith) here
-    decoded-said (Is w) = ask-keeps In Said _ _ _ (no _ _ (omega arith) here) (λ e. ends)
+    decoded-said None = no _ _ (omega arith) here
+    decoded-said (Some w) = ask-keeps In Said _ _ _ (no _ _ (omega arith) here) (λ e. ends)
 
     preset-said : Kept (preset_turn bytes s body next)
     unfolding preset_turn

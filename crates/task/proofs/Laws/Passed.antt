@@ -26,13 +26,12 @@ use Rattle.task.specs.Facts.{literals_at, within, consistent, case_consistent, p
 use Rattle.task.specs.Index.{action_at, effect_at, case_at}
 use Rattle.task.specs.Instruction.{encode}
 use Rattle.task.specs.Program.{line_offset}
-use Rattle.task.specs.Reading.{State, no_index, no_layout, begin, refused, accepted, header_turn, action_turn, on_preset, preset_turn, case_turn, close_turn, read_task, turn_of, may_stand}
+use Rattle.task.specs.Reading.{State, no_index, no_layout, begin, refused, accepted, header_turn, action_turn, on_preset, preset_turn, case_turn, close_turn, read_task, turn_of, may_stand, Reading, Progress}
+use Rattle.task.specs.declared.index.Index.{Index}
 use Rattle.task.specs.declared.index.Layout.{Layout}
-use Rattle.task.specs.declared.instruction.Decoded.{Decoded}
-use Rattle.task.specs.declared.instruction.Decoded.TheVariants.{Is, Nothing}
-use Rattle.task.specs.declared.reading.Progress.{Progress}
-use Rattle.task.specs.declared.reading.Reading.{Reading}
-use Rattle.task.specs.declared.verdict.Verdict.TheVariants.{Accepted}
+use Rattle.std.specs.Prelude.{Option, Some, None}
+use Rattle.task.specs.declared.instruction.Instruction.{Instruction}
+use Rattle.task.specs.Verdict.{Accepted}
 
 -- an action whose pairs pass question 6: its precondition, and the condition and the effect of each of its effects
 pub record ActionSound (facts : ℕ) (bytes : List ℕ) (at : ℕ) : Type 0 where
@@ -127,6 +126,25 @@ pub record Reached (bytes : List ℕ) (s : State) : Type 0 where
   pub held : (a : ℕ) → a < s.progress.index.actions → ActionThere bytes (get_or s.offsets a 0)
   pub cased : s.progress.index.first + 28 * s.progress.index.cases ≤ length bytes
 
+-- an index whose fields are all 0
+zeros : (facts procedures last stack steps actions cases first : ℕ) → facts ≡ 0 → procedures ≡ 0 → last ≡ 0 → stack ≡ 0 → steps ≡ 0 → actions ≡ 0 → cases ≡ 0
+    → first ≡ 0
+    → record {
+      bounds = record { facts = facts; procedures = procedures; last = last; stack = stack; steps = steps };
+      actions = actions;
+      cases = cases;
+      first = first;
+    }
+    ≡ no_index
+unfolding no_index
+zeros facts procedures last stack steps actions cases first a b c d e f g h = rw (a, b, c, d, e, f, g, h)
+
+pub zeros-index : (i : Index)
+    → ((i.bounds.facts ≡ 0) × ((i.bounds.procedures ≡ 0) × ((i.bounds.last ≡ 0) × ((i.bounds.stack ≡ 0) × (i.bounds.steps ≡ 0)))))
+    × ((i.actions ≡ 0) × ((i.cases ≡ 0) × (i.first ≡ 0)))
+    → i ≡ no_index
+zeros-index i h = zeros _ _ _ _ _ _ _ _ h.0.0 h.0.1.0 h.0.1.1.0 h.0.1.1.1.0 h.0.1.1.1.1 h.1.0 h.1.1.0 h.1.1.1
+
 module _ (bytes : List ℕ) where
   pub begin-reached : Reached bytes begin
   unfolding begin no_layout no_index
@@ -188,10 +206,10 @@ module _ (bytes : List ℕ) where
           cased = reached.cased;
         }
 
-    on-preset-kept : (body next : ℕ) → Follows s.progress.last 3 → (d : Decoded) → Kept (on_preset bytes s body next d)
+    on-preset-kept : (body next : ℕ) → Follows s.progress.last 3 → (d : Option Instruction) → Kept (on_preset bytes s body next d)
     unfolding on_preset
-    on-preset-kept body next f Nothing = refused-vacuous (Passed bytes) _ _
-    on-preset-kept body next f (Is w) =
+    on-preset-kept body next f None = refused-vacuous (Passed bytes) _ _
+    on-preset-kept body next f (Some w) =
         ask-kept _ _ _ _ λ h.
         let line = line_offset s.progress.index.bounds (record { 0 = byte_at bytes body }) (record { 0 = byte_at bytes (body + 1) }) in
         record {

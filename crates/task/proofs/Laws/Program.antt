@@ -25,10 +25,9 @@ use Rattle.task.specs.declared.instruction.Line.{Line}
 use Rattle.task.specs.declared.instruction.Proc.{Proc}
 use Rattle.task.specs.declared.instruction.Triple.{Triple}
 use Rattle.task.specs.declared.instruction.Instruction.{Instruction}
-use Rattle.task.specs.declared.instruction.Decoded.{Decoded}
-use Rattle.task.specs.declared.instruction.Decoded.TheVariants.{Is, Nothing}
-use Rattle.task.specs.declared.verdict.Verdict.{Verdict}
-use Rattle.task.specs.declared.verdict.Verdict.TheVariants.{Accepted, Refused}
+use Rattle.std.proofs.Math.Bool.{and_assoc}
+use Rattle.std.specs.Prelude.{Option, Some, None}
+use Rattle.task.specs.Verdict.{Verdict, Accepted, Refused}
 
 module _ (last k line : ℕ) (e : line ≡ k % (last + 1)) where
   same_line : (line + 1) % (last + 1) ≡ (k + 1) % (last + 1)
@@ -101,11 +100,11 @@ module _ (presets program : List ℕ) (k op : ℕ) (e : op ≡ byte_at presets (
   preset-none h = simp (eq-eqb _ _ (sym e ∙ h))
 
   pub preset-test : (op ≡ 0 → ⊥) → (p q : ℕ) (w : Triple) → p ≡ byte_at presets (3 * k + 1) → q ≡ byte_at presets (3 * k + 2)
-      → w ≡ triple_at program (3 * k) → (eqb op w.op && eqb p w.p && eqb q w.q) ≡ preset_held presets program k
+      → w ≡ triple_at program (3 * k) → (eqb op w.op && (eqb p w.p && eqb q w.q)) ≡ preset_held presets program k
   unfolding preset_held triple_at same_triple
   preset-test n p q w f g h =
       let z : eqb (byte_at presets (3 * k)) 0 ≡ false = ne_eqb _ _ (λ (d : byte_at presets (3 * k) ≡ 0). n (e ∙ d)) in
-      simp z (cc)
+      sym (and_assoc (eqb op w.op) (eqb p w.p) (eqb q w.q)) ∙ simp z (cc)
 
 -- line number k, counted through all procedures, is line k % (n + 1) of procedure k / (n + 1), and begins at 3 * k
 pub line-offset : (b : Bounds) (k : ℕ) → line_offset b (record { 0 = k / (b.last + 1) }) (record { 0 = k % (b.last + 1) }) ≡ 3 * k
@@ -178,18 +177,18 @@ module _ (i : Index) (presets program : List ℕ) (p : Passes i presets program)
 
 -- three bytes that decode spell an instruction, and it is the one that they decode to
 decoded-spelled : (b : Bounds) (actions : ℕ) (line : Line) (w : Triple) → is_instruction (decode b actions line w) ≡ true
-    → (is_instruction (spelled w) ≡ true) × ((v : Instruction) → spelled w ≡ Is v → decode b actions line w ≡ Is v)
+    → (is_instruction (spelled w) ≡ true) × ((v : Instruction) → spelled w ≡ Some v → decode b actions line w ≡ Some v)
 unfolding decode where_allowed keep is_instruction
 decoded-spelled b actions line w h = by (spelled w) h
   where
-    kept : (ok : Bool) (v : Instruction) → is_instruction (keep ok (Is v)) ≡ true → keep ok (Is v) ≡ Is v
+    kept : (ok : Bool) (v : Instruction) → is_instruction (keep ok (Some v)) ≡ true → keep ok (Some v) ≡ Some v
     kept true v is = refl
     kept false v is = absurd (false≢true is)
 
-    by : (d : Decoded) → is_instruction (where_allowed b actions line d) ≡ true
-        → (is_instruction d ≡ true) × ((v : Instruction) → d ≡ Is v → where_allowed b actions line d ≡ Is v)
-    by (Is v) is = (refl, λ u e. kept (allowed b actions line v) v is ∙ e)
-    by Nothing is = absurd (false≢true is)
+    by : (d : Option Instruction) → is_instruction (where_allowed b actions line d) ≡ true
+        → (is_instruction d ≡ true) × ((v : Instruction) → d ≡ Some v → where_allowed b actions line d ≡ Some v)
+    by (Some v) is = (refl, λ u e. kept (allowed b actions line v) v is ∙ e)
+    by None is = absurd (false≢true is)
 
 -- the instruction on a line that has one is the one that its bytes `w` spell
 module _ (i : Index) (program : List ℕ) (procedure : Proc) (line : Line) (is : is_instruction (instruction_on i program procedure line) ≡ true)
@@ -198,13 +197,13 @@ module _ (i : Index) (program : List ℕ) (procedure : Proc) (line : Line) (is :
   unfolding instruction_on
   decoded = rw (f, e)
 
-  spells : (is_instruction (spelled w) ≡ true) × ((v : Instruction) → spelled w ≡ Is v → decode i.bounds i.actions line w ≡ Is v)
+  spells : (is_instruction (spelled w) ≡ true) × ((v : Instruction) → spelled w ≡ Some v → decode i.bounds i.actions line w ≡ Some v)
   spells = decoded-spelled i.bounds i.actions line w (sym (ap is_instruction decoded) ∙ is)
 
   pub line-spells : is_instruction (spelled w) ≡ true
   line-spells = spells.0
 
-  pub line-spelled : (v : Instruction) → spelled w ≡ Is v → instruction_on i program procedure line ≡ Is v
+  pub line-spelled : (v : Instruction) → spelled w ≡ Some v → instruction_on i program procedure line ≡ Some v
   line-spelled v k = decoded ∙ spells.1 v k
 
 -- a property of its refusals, with a number from 25 on at the offset of a line or 0, and of an acceptance is one of a program's own verdict

@@ -1,29 +1,29 @@
 -- One record of a task file: what its answers lead to, kind by kind, as the reader's own answer says it.
 -- Assumes nothing.
 use Prim.Native.Nat.{ℕ, ◌+◌, ◌/◌, ◌≤◌, ◌<◌}
-use mathlib.Core.Path.{◌≡◌, refl, sym, ap, ◌∙◌}
+use mathlib.Core.Path.{◌≡◌, refl, sym, ◌∙◌}
 use mathlib.Core.Bool.{Bool, true, false, cond}
 use mathlib.Core.List.{List}
 use native.Mathlib.Omega.{arith}
 use lib.ListN.{length, set}
 use lib.Dec.{eqb, ltb}
 use borrow.Author.Tests.{lt-ltb, le-ltb, eq-eqb, ne_eqb, eqb-true}
-use Rattle.records.specs.Loop.{Turn}
+use Rattle.records.specs.Loop.{Turn, stop}
 use Rattle.records.specs.Numbers.{byte_at, eight_at, u64_at}
 use Rattle.records.specs.Record.{record_at}
-use Rattle.records.specs.declared.record.Found.{Found}
-use Rattle.records.specs.declared.record.Found.TheVariants.{Record}
+use Rattle.std.specs.Prelude.{Ok, Err, Option, Some}
+use Rattle.records.specs.declared.record.Record.{Record}
+use Rattle.records.proofs.Laws.Record.{found_record, record-ends}
 use Rattle.records.proofs.Laws.Loop.{ask-yes, ask-no}
 use Rattle.records.proofs.Laws.Numbers.{u64-there}
-use Rattle.records.proofs.Laws.Record.{record-ends}
 use Rattle.task.specs.Bounds.{bounds_at, in_range}
 use Rattle.task.specs.Facts.{literals_at, case_consistent, pairs_before_fault_at}
 use Rattle.task.specs.Instruction.{decode_for, encode, triple_at, with_triple}
 use Rattle.task.specs.Program.{line_offset, is_instruction}
 use Rattle.task.proofs.Laws.Instruction.{not-instruction, instruction-is, decoded-for, decoded-there}
-use Rattle.task.specs.Outcome.{state, with_record, turned}
-use Rattle.task.specs.Questions.{KIND, LENGTH, COUNT, BOUNDS, SETS, PRESET, REPEATED}
-use Rattle.task.specs.Reading.{State, may_stand, by_kind, length_fits, header_turn, action_turn, on_preset, preset_turn, case_turn, kind_turn, on_record, preset_proc, preset_line}
+use Rattle.task.specs.Outcome.{state, with_record, part_turned}
+use Rattle.task.specs.Questions.{KIND, LENGTH}
+use Rattle.task.specs.Reading.{State, may_stand, by_kind, length_fits, header_turn, action_turn, on_preset, preset_turn, case_turn, close_turn, kind_turn, on_record, refused, preset_proc, preset_line, Reading, Progress}
 use Rattle.task.specs.declared.bounds.Bounds.{Bounds}
 use Rattle.task.specs.declared.facts.Literals.{Literals}
 use Rattle.task.specs.declared.index.Index.{Index}
@@ -31,11 +31,7 @@ use Rattle.task.specs.declared.instruction.Line.{Line}
 use Rattle.task.specs.declared.instruction.Proc.{Proc}
 use Rattle.task.specs.declared.instruction.Triple.{Triple}
 use Rattle.task.specs.declared.instruction.Instruction.{Instruction}
-use Rattle.task.specs.declared.instruction.Decoded.TheVariants.{Is}
-use Rattle.task.specs.declared.reading.Answer.{Answer}
-use Rattle.task.specs.declared.reading.Answer.TheVariants.{Yes, No, Closing}
-use Rattle.task.specs.declared.reading.Progress.{Progress}
-use Rattle.task.specs.declared.reading.Reading.{Reading}
+use Rattle.task.specs.declared.questions.Question.TheVariants.{TaskTooMany, TaskBounds, TaskFacts, TaskPreset, TaskPresetTwice}
 
 module _ {A : Type 0} (kind : ℕ) (header action preset case close : A) where
   pub by-header : kind ≡ 1 → header ≡ by_kind kind header action preset case close
@@ -96,30 +92,30 @@ module _ (bytes : List ℕ) (i : Index) (kind at body : ℕ) where
 
 module _ (bytes : List ℕ) (p : Progress) (body next : ℕ) (o q : List ℕ) where
   module _ (b : Bounds) (r : Bool) (f : b ≡ bounds_at bytes body) (g : r ≡ in_range b) where
-    pub header-no : r ≡ false → turned bytes p 1 body next (No BOUNDS) o q ≡ header_turn bytes (state p o q) body next
-    unfolding turned header_turn
+    pub header-no : r ≡ false → part_turned bytes p 1 body next (Err TaskBounds) o q ≡ header_turn bytes (state p o q) body next
+    unfolding part_turned header_turn
     header-no h = ask-no _ _ _ (cc)
 
-    pub header-yes : r ≡ true → turned bytes p 1 body next Yes o q ≡ header_turn bytes (state p o q) body next
-    unfolding turned header_turn with_record by_kind
+    pub header-yes : r ≡ true → part_turned bytes p 1 body next (Ok tt) o q ≡ header_turn bytes (state p o q) body next
+    unfolding part_turned header_turn with_record by_kind
     header-yes h = ask-yes _ _ _ (cc)
 
   module _ (size : ℕ) where
-    pub action-full : 64 ≤ p.index.actions → turned bytes p 2 body next (No COUNT) o q ≡ action_turn bytes (state p o q) body size next
-    unfolding turned action_turn
+    pub action-full : 64 ≤ p.index.actions → part_turned bytes p 2 body next (Err TaskTooMany) o q ≡ action_turn bytes (state p o q) body size next
+    unfolding part_turned action_turn
     action-full h = ask-no _ _ _ (le-ltb p.index.actions 64 h)
 
     module _ (pairs : ℕ) (h : p.index.actions < 64) (g : pairs ≡ pairs_before_fault_at p.index.bounds.facts bytes body (size / 16)) where
       few-actions : ltb p.index.actions 64 ≡ true
       few-actions = lt-ltb p.index.actions 64 h
 
-      pub action-no : (pairs ≡ size / 16 → ⊥) → turned bytes p 2 body next (No SETS) o q ≡ action_turn bytes (state p o q) body size next
-      unfolding turned action_turn
+      pub action-no : (pairs ≡ size / 16 → ⊥) → part_turned bytes p 2 body next (Err TaskFacts) o q ≡ action_turn bytes (state p o q) body size next
+      unfolding part_turned action_turn
       action-no k = ask-no _ _ _ (rw (← g) (ne_eqb pairs (size / 16) k)) ∙ ask-yes _ _ _ few-actions
 
       pub action-yes : pairs ≡ size / 16
-          → turned bytes p 2 body next Yes (set o p.index.actions p.at) q ≡ action_turn bytes (state p o q) body size next
-      unfolding turned action_turn with_record by_kind
+          → part_turned bytes p 2 body next (Ok tt) (set o p.index.actions p.at) q ≡ action_turn bytes (state p o q) body size next
+      unfolding part_turned action_turn with_record by_kind
       action-yes y = ask-yes _ _ _ (rw (← g) (eq-eqb pairs (size / 16) y)) ∙ ask-yes _ _ _ few-actions
 
   abbrev procedure : Proc
@@ -134,28 +130,28 @@ module _ (bytes : List ℕ) (p : Progress) (body next : ℕ) (o q : List ℕ) wh
     unfolding preset_turn
     on-preset = rw e refl
 
-    pub preset-no : r ≡ false → turned bytes p 3 body next (No PRESET) o q ≡ preset_turn bytes (state p o q) body next
-    unfolding turned on_preset
+    pub preset-no : r ≡ false → part_turned bytes p 3 body next (Err TaskPreset) o q ≡ preset_turn bytes (state p o q) body next
+    unfolding part_turned on_preset
     preset-no h = rw (not-instruction _ (sym g ∙ h)) at on-preset
 
     module _ (offset : ℕ) (f : offset ≡ line_offset p.index.bounds procedure line) (y : r ≡ true) where
-      some : (w : Instruction) × (decode_for p.index.bounds p.index.actions procedure line t ≡ Is w)
+      some : (w : Instruction) × (decode_for p.index.bounds p.index.actions procedure line t ≡ Some w)
       some = instruction-is _ (sym g ∙ y)
 
-      pub preset-again : (byte_at q offset ≡ 0 → ⊥) → turned bytes p 3 body next (No REPEATED) o q ≡ preset_turn bytes (state p o q) body next
-      unfolding turned on_preset
+      pub preset-again : (byte_at q offset ≡ 0 → ⊥) → part_turned bytes p 3 body next (Err TaskPresetTwice) o q ≡ preset_turn bytes (state p o q) body next
+      unfolding part_turned on_preset
       preset-again n = ask-no _ _ _ (rw (← f) (ne_eqb (byte_at q offset) 0 n)) ∙ rw some.1 at on-preset
 
       pub preset-yes : (q' : List ℕ) → q' ≡ with_triple q offset t → byte_at q offset ≡ 0
-          → turned bytes p 3 body next Yes o q' ≡ preset_turn bytes (state p o q) body next
-      unfolding turned on_preset with_record by_kind
+          → part_turned bytes p 3 body next (Ok tt) o q' ≡ preset_turn bytes (state p o q) body next
+      unfolding part_turned on_preset with_record by_kind
       preset-yes q' h z =
           let written : q' ≡ with_triple q (line_offset p.index.bounds procedure line) (encode some.0) =
           cc (decoded-for _ _ procedure line t some.0 some.1).encodes in
           rw written (ask-yes _ _ _ (rw (← f) (eq-eqb (byte_at q offset) 0 z)) ∙ rw some.1 at on-preset)
 
-  pub case_full : 32 ≤ p.index.cases → turned bytes p 4 body next (No COUNT) o q ≡ case_turn bytes (state p o q) body next
-  unfolding turned case_turn
+  pub case_full : 32 ≤ p.index.cases → part_turned bytes p 4 body next (Err TaskTooMany) o q ≡ case_turn bytes (state p o q) body next
+  unfolding part_turned case_turn
   case_full h = ask-no _ _ _ (le-ltb p.index.cases 32 h)
 
   module _ (h : p.index.cases < 32) (there : body + 24 ≤ length bytes) (start : ℕ) (goal : Literals) (c : Bool)
@@ -166,12 +162,12 @@ module _ (bytes : List ℕ) (p : Progress) (body next : ℕ) (o q : List ℕ) wh
     sets : c ≡ case_consistent p.index.bounds.facts (u64_at bytes body) (literals_at bytes (body + 8))
     sets = cc (u64-there bytes body start e₁ (omega arith))
 
-    pub case-no : c ≡ false → turned bytes p 4 body next (No SETS) o q ≡ case_turn bytes (state p o q) body next
-    unfolding turned case_turn
+    pub case-no : c ≡ false → part_turned bytes p 4 body next (Err TaskFacts) o q ≡ case_turn bytes (state p o q) body next
+    unfolding part_turned case_turn
     case-no k = ask-no _ _ _ (sym sets ∙ k) ∙ ask-yes _ _ _ few-cases
 
-    pub case-yes : c ≡ true → turned bytes p 4 body next Yes o q ≡ case_turn bytes (state p o q) body next
-    unfolding turned case_turn with_record by_kind
+    pub case-yes : c ≡ true → part_turned bytes p 4 body next (Ok tt) o q ≡ case_turn bytes (state p o q) body next
+    unfolding part_turned case_turn with_record by_kind
     case-yes y = ask-yes _ _ _ (sym sets ∙ y) ∙ ask-yes _ _ _ few-cases
 
 -- the line of a preset that question 7 lets pass lies in the array
@@ -204,56 +200,46 @@ module _ (kind body size end : ℕ) (there : body + size ≤ end) (fit : length_
   case-body h = omega (arith, eqb-true size 24 (fits _ (by-case _ _ _ _ _ _ h)))
 
 -- a record's body is in the file
-pub body-there : (bytes : List ℕ) (at : ℕ) (f : Found) → f ≡ record_at bytes at → (kind body size next : ℕ) → f ≡ Record kind body size next
+pub body-there : (bytes : List ℕ) (at : ℕ) (f : Option Record) → f ≡ record_at bytes at → (kind body size next : ℕ) → f ≡ found_record kind body size next
     → body + size ≤ length bytes
 body-there bytes at f e kind body size next r = omega (arith, record-ends bytes at kind body size next (sym e ∙ r))
 
 -- what the kind asks, kind by kind
-module _ (bytes : List ℕ) (p : Progress) (kind body size next : ℕ) (a : Answer) (o q o' q' : List ℕ) where
-  abbrev Turned : ℕ → Turn State Reading
-  Turned k = turned bytes p k body next a o' q'
-
-  module _ (k : ℕ) (e : kind ≡ k) where
-    turned-kind : (t : Turn State Reading) → Turned k ≡ t → t ≡ kind_turn bytes (state p o q) kind body size next
-        → Turned kind ≡ kind_turn bytes (state p o q) kind body size next
-    turned-kind t f g = ap Turned e ∙ f ∙ g
-
-  pub kind-header : kind ≡ 1 → Turned 1 ≡ header_turn bytes (state p o q) body next → Turned kind ≡ kind_turn bytes (state p o q) kind body size next
+module _ (bytes : List ℕ) (p : Progress) (kind body size next : ℕ) (o q : List ℕ) (t : Turn State Reading) where
+  pub kind-header : kind ≡ 1 → t ≡ header_turn bytes (state p o q) body next → t ≡ kind_turn bytes (state p o q) kind body size next
   unfolding kind_turn
-  kind-header e f = turned-kind 1 e _ f (by-header _ _ _ _ _ _ e)
+  kind-header e f = f ∙ by-header _ _ _ _ _ _ e
 
-  pub kind-action : kind ≡ 2 → Turned 2 ≡ action_turn bytes (state p o q) body size next → Turned kind ≡ kind_turn bytes (state p o q) kind body size next
+  pub kind-action : kind ≡ 2 → t ≡ action_turn bytes (state p o q) body size next → t ≡ kind_turn bytes (state p o q) kind body size next
   unfolding kind_turn
-  kind-action e f = turned-kind 2 e _ f (by-action _ _ _ _ _ _ e)
+  kind-action e f = f ∙ by-action _ _ _ _ _ _ e
 
-  pub kind-preset : kind ≡ 3 → Turned 3 ≡ preset_turn bytes (state p o q) body next → Turned kind ≡ kind_turn bytes (state p o q) kind body size next
+  pub kind-preset : kind ≡ 3 → t ≡ preset_turn bytes (state p o q) body next → t ≡ kind_turn bytes (state p o q) kind body size next
   unfolding kind_turn
-  kind-preset e f = turned-kind 3 e _ f (by-preset _ _ _ _ _ _ e)
+  kind-preset e f = f ∙ by-preset _ _ _ _ _ _ e
 
-  pub kind-case : kind ≡ 4 → Turned 4 ≡ case_turn bytes (state p o q) body next → Turned kind ≡ kind_turn bytes (state p o q) kind body size next
+  pub kind-case : kind ≡ 4 → t ≡ case_turn bytes (state p o q) body next → t ≡ kind_turn bytes (state p o q) kind body size next
   unfolding kind_turn
-  kind-case e f = turned-kind 4 e _ f (by-case _ _ _ _ _ _ e)
+  kind-case e f = f ∙ by-case _ _ _ _ _ _ e
 
--- any other kind is the closing record; question 9 is still to ask
-pub kind-close : (bytes : List ℕ) (p : Progress) (kind body size next : ℕ) (o q : List ℕ)
-    → (kind ≡ 1 → ⊥) → (kind ≡ 2 → ⊥) → (kind ≡ 3 → ⊥) → (kind ≡ 4 → ⊥)
-    → turned bytes p kind body next Closing o q ≡ kind_turn bytes (state p o q) kind body size next
-unfolding turned kind_turn
-kind-close bytes p kind body size next o q n₁ n₂ n₃ n₄ = by-close _ _ _ _ _ _ n₁ n₂ n₃ n₄
+  -- the closing record; question 9 is still to ask
+  pub kind-close : kind ≡ 5 → t ≡ close_turn bytes (state p o q) next → t ≡ kind_turn bytes (state p o q) kind body size next
+  unfolding kind_turn
+  kind-close e f = f ∙ by-close _ _ _ _ _ _ (λ h. omega arith) (λ h. omega arith) (λ h. omega arith) (λ h. omega arith)
 
 -- questions 2 and 3 of a record
-module _ (bytes : List ℕ) (p : Progress) (kind body size next : ℕ) (o q : List ℕ) (m : Bool) (g : m ≡ may_stand p.last kind) where
-  pub kind-no : m ≡ false → turned bytes p kind body next (No KIND) o q ≡ on_record bytes (state p o q) (Record kind body size next)
-  unfolding turned on_record
-  kind-no h = ask-no _ _ _ (sym g ∙ h)
+module _ (bytes : List ℕ) (p : Progress) (kind body size next : ℕ) (o q : List ℕ) where
+  pub kind-no : may_stand p.last kind ≡ false → stop (refused KIND p.at) ≡ on_record bytes (state p o q) (found_record kind body size next)
+  unfolding on_record
+  kind-no h = ask-no _ _ _ h
 
-  module _ (y : m ≡ true) (l : Bool) (k : l ≡ length_fits kind size) where
-    pub length-no : l ≡ false → turned bytes p kind body next (No LENGTH) o q ≡ on_record bytes (state p o q) (Record kind body size next)
-    unfolding turned on_record
-    length-no h = ask-no _ _ _ (sym k ∙ h) ∙ ask-yes _ _ _ (sym g ∙ y)
+  module _ (y : may_stand p.last kind ≡ true) where
+    pub length-no : length_fits kind size ≡ false → stop (refused LENGTH p.at) ≡ on_record bytes (state p o q) (found_record kind body size next)
+    unfolding on_record
+    length-no h = ask-no _ _ _ h ∙ ask-yes _ _ _ y
 
     -- past questions 2 and 3 the turn is what the kind asks
-    pub kind-turn : l ≡ true → (t : Turn State Reading) → t ≡ kind_turn bytes (state p o q) kind body size next
-        → t ≡ on_record bytes (state p o q) (Record kind body size next)
+    pub kind-turn : length_fits kind size ≡ true → (t : Turn State Reading) → t ≡ kind_turn bytes (state p o q) kind body size next
+        → t ≡ on_record bytes (state p o q) (found_record kind body size next)
     unfolding on_record
-    kind-turn h t d = d ∙ ask-yes _ _ _ (sym k ∙ h) ∙ ask-yes _ _ _ (sym g ∙ y)
+    kind-turn h t d = d ∙ ask-yes _ _ _ h ∙ ask-yes _ _ _ y

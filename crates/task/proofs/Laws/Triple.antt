@@ -24,10 +24,10 @@ use Rattle.task.specs.declared.instruction.Proc.{Proc}
 use Rattle.task.specs.declared.instruction.Triple.{Triple}
 use Rattle.task.specs.declared.instruction.Instruction.{Instruction}
 use Rattle.task.specs.declared.instruction.Instruction.TheVariants.{Empty, Act, Goto, Call, End}
-use Rattle.task.specs.declared.instruction.Decoded.TheVariants.{Is}
+use Rattle.std.specs.Prelude.{Some}
 
 -- an instruction is determined by its three bytes
-pub spelled-encode : (w : Instruction) → spelled (encode w) ≡ Is w
+pub spelled-encode : (w : Instruction) → spelled (encode w) ≡ Some w
 unfolding spelled encode keep
 spelled-encode Empty = refl
 spelled-encode (Act action) = refl
@@ -37,11 +37,11 @@ spelled-encode End = refl
 
 pub encode_injective : (v w : Instruction) → encode v ≡ encode w → v ≡ w
 encode_injective v w e =
-    let s : Is v ≡ Is w = sym (spelled-encode v) ∙ ap spelled e ∙ spelled-encode w in
+    let s : Some v ≡ Some w = sym (spelled-encode v) ∙ ap spelled e ∙ spelled-encode w in
     cc
 
 -- an instruction that is decoded on a line has the line's bytes, and is what they spell
-pub decoded-on : (i : Index) (program : List ℕ) (procedure : Proc) (line : Line) (w : Instruction) → instruction_on i program procedure line ≡ Is w
+pub decoded-on : (i : Index) (program : List ℕ) (procedure : Proc) (line : Line) (w : Instruction) → instruction_on i program procedure line ≡ Some w
     → (encode w ≡ line_bytes i.bounds program procedure line) × (spelled_on i.bounds program procedure line ≡ w)
 unfolding instruction_on spelled_on
 decoded-on i program procedure line w e =

@@ -11,19 +11,23 @@ use lib.Dec.{eqb}
 use borrow.Author.Tests.{eq-eqb, ne_eqb}
 use Rattle.records.specs.Loop.{Turn, stop, go, ask, after, loop}
 use Rattle.records.specs.Record.{record_at}
-use Rattle.records.specs.declared.record.Found.{Found}
-use Rattle.records.specs.declared.record.Found.TheVariants.{Record, Missing}
+use Rattle.records.specs.declared.record.Record.{Record}
+use Rattle.records.proofs.Laws.Record.{found_record, record-ends}
 use Rattle.records.proofs.Laws.Loop.{stop-go, unroll, ask-yes, ask-no}
-use Rattle.records.proofs.Laws.Record.{record-ends}
-use Rattle.task.specs.Outcome.{state, with_record, turned}
+use Rattle.task.specs.Outcome.{state, with_record, part_turned, turned}
 use Rattle.task.specs.Questions.{WHOLE, CLOSED}
-use Rattle.task.specs.Reading.{State, begin, refused, accepted, by_kind, length_fits, header_turn, action_turn, on_preset, preset_turn, case_turn, close_turn, kind_turn, on_record, turn_of, left, read_task}
-use Rattle.task.specs.declared.instruction.Decoded.{Decoded}
-use Rattle.task.specs.declared.instruction.Decoded.TheVariants.{Is, Nothing}
-use Rattle.task.specs.declared.reading.Answer.{Answer}
-use Rattle.task.specs.declared.reading.Answer.TheVariants.{Yes, No, Closing}
-use Rattle.task.specs.declared.reading.Progress.{Progress}
-use Rattle.task.specs.declared.reading.Reading.{Reading}
+use Rattle.task.specs.Reading.{State, begin, refused, accepted, by_kind, may_stand, length_fits, header_turn, action_turn, on_preset, preset_turn, case_turn, close_turn, kind_turn, on_record, turn_of, left, read_task, Reading, Progress}
+use Rattle.task.specs.declared.instruction.Instruction.{Instruction}
+use Rattle.std.specs.Prelude.{Option, Some, None, Result, Ok, Err}
+use Rattle.task.specs.Verdict.{number}
+use Rattle.task.specs.declared.questions.Question.{Question}
+use Rattle.task.specs.declared.refusal.Refusal.{Refusal}
+use Rattle.task.specs.declared.questions.Question.TheVariants.{TaskRecordKind, TaskRecordLength}
+use Rattle.task.proofs.Laws.Kept.{may-stand-known}
+use Rattle.task.proofs.Laws.Reading.{kind-no, length-no, kind-turn, kind-header, kind-action, kind-preset, kind-case, kind-close}
+use Rattle.task.specs.declared.kind.Kind.{Kind}
+use Rattle.task.specs.declared.kind.Kind.TheVariants.{Header, Action, Preset, Case, Closing}
+use Rattle.task.specs.Kind.{kind_number}
 
 -- a turn that goes on goes to the offset `next`
 abbrev Goes : ℕ → Turn State Reading → Type 0
@@ -66,10 +70,10 @@ module _ (bytes : List ℕ) (s : State) where
   unfolding action_turn
   action-goes body size next = ask-goes _ _ _ _ (ask-goes _ _ _ _ (go-goes _))
 
-  on-preset-goes : (body next : ℕ) (d : Decoded) → Goes next (on_preset bytes s body next d)
+  on-preset-goes : (body next : ℕ) (d : Option Instruction) → Goes next (on_preset bytes s body next d)
   unfolding on_preset
-  on-preset-goes body next Nothing = stop_goes next _
-  on-preset-goes body next (Is w) = ask-goes _ _ _ _ (go-goes _)
+  on-preset-goes body next None = stop_goes next _
+  on-preset-goes body next (Some w) = ask-goes _ _ _ _ (go-goes _)
 
   preset-goes : (body next : ℕ) → Goes next (preset_turn bytes s body next)
   unfolding preset_turn
@@ -83,18 +87,18 @@ module _ (bytes : List ℕ) (s : State) where
   unfolding close_turn
   close-goes next = ask-goes _ _ _ _ (stop_goes next _)
 
-  record-goes : (kind body size next : ℕ) → Goes next (on_record bytes s (Record kind body size next))
+  record-goes : (kind body size next : ℕ) → Goes next (on_record bytes s (found_record kind body size next))
   unfolding on_record kind_turn
   record-goes kind body size next =
       ask-goes _ _ _ _
       (ask-goes _ _ _ _
       (kind-goes _ _ _ _ _ _ _ (header-goes body next) (action-goes body size next) (preset-goes body next) (case_goes body next) (close-goes next)))
 
-  found-falls : (f : Found) → record_at bytes s.progress.at ≡ f → (t : State) → on_record bytes s f ≡ go t → left bytes t < left bytes s
+  found-falls : (f : Option Record) → record_at bytes s.progress.at ≡ f → (t : State) → on_record bytes s f ≡ go t → left bytes t < left bytes s
   unfolding on_record
-  found-falls Missing e t h = absurd (stop-go h)
-  found-falls (Record kind body size next) e t h =
-      omega (arith, record-ends bytes s.progress.at kind body size next e, record-goes kind body size next t h)
+  found-falls None e t h = absurd (stop-go h)
+  found-falls (Some r) e t h =
+      omega (arith, record-ends bytes s.progress.at r.kind r.body r.length r.next e, record-goes r.kind r.body r.length r.next t h)
 
   pub falls : (t : State) → turn_of bytes s ≡ go t → left bytes t < left bytes s
   unfolding turn_of
@@ -123,36 +127,110 @@ module _ (bytes : List ℕ) (s : State) (r : from bytes s ≡ read_task bytes) w
   from-stop a e = step (stop a) e
 
 -- the record that `f` found at the reading's offset, and the answer to it, with the arrays as they are then
-module _ (bytes : List ℕ) (p : Progress) (o q : List ℕ) (f : Found) (e : f ≡ record_at bytes p.at) where
-  pub turn-missing : f ≡ Missing → stop (refused WHOLE p.at) ≡ turn_of bytes (state p o q)
+module _ (bytes : List ℕ) (p : Progress) (o q : List ℕ) (f : Option Record) (e : f ≡ record_at bytes p.at) where
+  pub turn-missing : f ≡ None → stop (refused WHOLE p.at) ≡ turn_of bytes (state p o q)
   unfolding turn_of on_record
   turn-missing h = rw (← e, h)
 
-  module _ (kind body size next : ℕ) (r : f ≡ Record kind body size next) (a : Answer) (o' q' : List ℕ)
-      (t : turned bytes p kind body next a o' q' ≡ on_record bytes (state p o q) (Record kind body size next)) where
-    turn_is : turned bytes p kind body next a o' q' ≡ turn_of bytes (state p o q)
+  module _ (r : Record) (g : f ≡ Some r) (a : Result Kind Question) (o' q' : List ℕ)
+      (t : turned bytes p r a o' q' ≡ on_record bytes (state p o q) (Some r)) where
+    turn_is : turned bytes p r a o' q' ≡ turn_of bytes (state p o q)
     unfolding turn_of
-    turn_is = rw (← e, r) t
+    turn_is = rw (← e, g) t
 
-    pub turn-no : (question : ℕ) → a ≡ No question → stop (refused question p.at) ≡ turn_of bytes (state p o q)
+    -- the question that says no, at the record
+    pub turn-no : (f : Refusal) → (question : Question) × (a ≡ Err question) × (f ≡ record { question = question; place = p.at })
+        → stop (refused (number f.question) f.place) ≡ turn_of bytes (state p o q)
     unfolding turned
-    turn-no question h = rw h at turn_is
+    turn-no f h = rw h.2 (rw h.1 at turn_is)
 
-    module _ (h : a ≡ Closing) where
-      pub turn-trailing : (next ≡ length bytes → ⊥) → stop (refused CLOSED next) ≡ turn_of bytes (state p o q)
+    module _ (h : a ≡ Ok Closing) where
+      pub turn-trailing : (r.next ≡ length bytes → ⊥) → stop (refused CLOSED r.next) ≡ turn_of bytes (state p o q)
       unfolding turned close_turn
-      turn-trailing n = ask-no _ _ _ (ne_eqb next (length bytes) n) ∙ rw h at turn_is
+      turn-trailing n = ask-no _ _ _ (ne_eqb r.next (length bytes) n) ∙ rw h at turn_is
 
-      pub turn-closed : next ≡ length bytes → stop (accepted (record { index = p.index; offsets = o'; presets = q' })) ≡ turn_of bytes (state p o q)
+      pub turn-closed : r.next ≡ length bytes → stop (accepted (record { index = p.index; offsets = o'; presets = q' })) ≡ turn_of bytes (state p o q)
       unfolding turned close_turn
-      turn-closed y = ask-yes _ _ _ (eq-eqb next (length bytes) y) ∙ rw h at turn_is
+      turn-closed y = ask-yes _ _ _ (eq-eqb r.next (length bytes) y) ∙ rw h at turn_is
 
-    module _ (y : a ≡ Yes) where
-      pub turn-next : go (state (record { at = next; last = kind; index = with_record bytes p.index kind p.at body }) o' q') ≡ turn_of bytes (state p o q)
-      unfolding turned
-      turn-next = rw y at turn_is
+    module _ (kind : Kind) (n : kind ≡ Closing → ⊥) (y : a ≡ Ok kind) where
+      -- what the reading goes on with
+      abbrev gone : Turn State Reading
+      gone = go (state (record { at = r.next; last = kind_number kind; index = with_record bytes p.index (kind_number kind) p.at r.body }) o' q')
+
+      goes : (k : Kind) → (k ≡ Closing → ⊥)
+          → go (state (record { at = r.next; last = kind_number k; index = with_record bytes p.index (kind_number k) p.at r.body }) o' q') ≡ turned bytes p r (Ok k) o' q'
+      unfolding turned part_turned
+      goes Header n = refl
+      goes Action n = refl
+      goes Preset n = refl
+      goes Case n = refl
+      goes Closing n = absurd (n refl)
+
+      pub turn-next : gone ≡ turn_of bytes (state p o q)
+      turn-next = goes kind n ∙ (rw y at turn_is)
 
       -- a record that the reading goes on behind has the length that question 3 asks
-      pub next_fits : length_fits kind size ≡ true
-      unfolding turned on_record
-      next_fits = (ask-went _ _ _ _ (ask-went _ _ _ _ (rw y at t)).1).0
+      pub next_fits : length_fits r.kind r.length ≡ true
+      unfolding on_record
+      next_fits = (ask-went _ _ _ _ (ask-went _ _ _ _ (goes kind n ∙ (rw y at t))).1).0
+
+-- the answer to what a kind asks, with the kind in it
+abbrev pub with_kind : Kind → Result Unit Question → Result Kind Question
+with_kind k (Ok value) = Ok k
+with_kind k (Err question) = Err question
+
+-- a record of a kind that questions 2 and 3 let pass: its turn is what its kind asks
+module _ (bytes : List ℕ) (p : Progress) (r : Record) (o q : List ℕ) where
+  pub unknown-kind : (r.kind ≡ 1 → ⊥) × (r.kind ≡ 2 → ⊥) × (r.kind ≡ 3 → ⊥) × (r.kind ≡ 4 → ⊥) × (r.kind ≡ 5 → ⊥)
+      → turned bytes p r (Err TaskRecordKind) o q ≡ on_record bytes (state p o q) (Some r)
+  unfolding turned
+  unknown-kind n = kind-no bytes p r.kind r.body r.length r.next o q (may-stand-known p.last r.kind n.0 n.1 n.2 n.3 n.4)
+
+  module _ (k : Kind) (e : r.kind ≡ kind_number k) where
+    pub kind-not : false ≡ may_stand p.last (kind_number k) → turned bytes p r (Err TaskRecordKind) o q ≡ on_record bytes (state p o q) (Some r)
+    unfolding turned
+    kind-not h = kind-no bytes p r.kind r.body r.length r.next o q (rw e (sym h))
+
+    module _ (stands : true ≡ may_stand p.last (kind_number k)) where
+      pub length-not : false ≡ length_fits (kind_number k) r.length → turned bytes p r (Err TaskRecordLength) o q ≡ on_record bytes (state p o q) (Some r)
+      unfolding turned
+      length-not h = length-no bytes p r.kind r.body r.length r.next o q (rw e (sym stands)) (rw e (sym h))
+
+      module _ (fits : true ≡ length_fits (kind_number k) r.length) where
+        asks : (t : Turn State Reading) → t ≡ kind_turn bytes (state p o q) r.kind r.body r.length r.next → t ≡ on_record bytes (state p o q) (Some r)
+        asks = kind-turn bytes p r.kind r.body r.length r.next o q (rw e (sym stands)) (rw e (sym fits))
+
+        pub asks-close : k ≡ Closing → turned bytes p r (Ok k) o q ≡ on_record bytes (state p o q) (Some r)
+        unfolding turned
+        asks-close h = rw h (asks _ (kind-close bytes p r.kind r.body r.length r.next o q _ (e ∙ ap kind_number h) refl))
+
+        module _ (o' q' : List ℕ) (a : Result Unit Question) where
+          part : (k : Kind) → (k ≡ Closing → ⊥) → (a : Result Unit Question)
+              → turned bytes p r (with_kind k a) o' q' ≡ part_turned bytes p (kind_number k) r.body r.next a o' q'
+          unfolding turned part_turned
+          part k n (Err question) = refl
+          part Header n (Ok value) = refl
+          part Action n (Ok value) = refl
+          part Preset n (Ok value) = refl
+          part Case n (Ok value) = refl
+          part Closing n (Ok value) = absurd (n refl)
+
+          abbrev Asks : Type 0
+          Asks = turned bytes p r (with_kind k a) o' q' ≡ on_record bytes (state p o q) (Some r)
+
+          pub asks-header : k ≡ Header → part_turned bytes p 1 r.body r.next a o' q' ≡ header_turn bytes (state p o q) r.body r.next → Asks
+          asks-header h t =
+              asks _ (kind-header bytes p r.kind r.body r.length r.next o q _ (e ∙ ap kind_number h) (rw h (part Header (λ z. cc) a ∙ t)))
+
+          pub asks-action : k ≡ Action → part_turned bytes p 2 r.body r.next a o' q' ≡ action_turn bytes (state p o q) r.body r.length r.next → Asks
+          asks-action h t =
+              asks _ (kind-action bytes p r.kind r.body r.length r.next o q _ (e ∙ ap kind_number h) (rw h (part Action (λ z. cc) a ∙ t)))
+
+          pub asks-preset : k ≡ Preset → part_turned bytes p 3 r.body r.next a o' q' ≡ preset_turn bytes (state p o q) r.body r.next → Asks
+          asks-preset h t =
+              asks _ (kind-preset bytes p r.kind r.body r.length r.next o q _ (e ∙ ap kind_number h) (rw h (part Preset (λ z. cc) a ∙ t)))
+
+          pub asks-case : k ≡ Case → part_turned bytes p 4 r.body r.next a o' q' ≡ case_turn bytes (state p o q) r.body r.next → Asks
+          asks-case h t =
+              asks _ (kind-case bytes p r.kind r.body r.length r.next o q _ (e ∙ ap kind_number h) (rw h (part Case (λ z. cc) a ∙ t)))

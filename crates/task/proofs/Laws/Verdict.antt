@@ -3,7 +3,7 @@
 use Prim.Native.Nat.{ℕ}
 use mathlib.Core.Path.{◌≡◌}
 use native.Mathlib.Omega.{arith}
-use Rattle.task.specs.declared.verdict.Verdict.TheVariants.{Accepted, Refused}
+use Rattle.task.specs.Verdict.{Accepted, Refused}
 
 pub refused-accepted : {question place value : ℕ} → Refused question place ≡ Accepted value → ⊥
 refused-accepted h = let z : ◌≡◌ {A = ℕ} 0 1 = cc in omega arith

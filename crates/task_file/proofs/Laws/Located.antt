@@ -6,16 +6,17 @@ use mathlib.Core.List.{List}
 use native.Mathlib.Omega.{arith}
 use lib.ListN.{length, take, get_or, length-map}
 use lib.Seq.{get_or-take, length-take-le}
+use Rattle.std.proofs.lemmas.List.{get_or-map}
 use Rattle.task.specs.Index.{action_at, effect_at, effects_of, case_at}
 use Rattle.task.specs.Reading.{read_task}
 use Rattle.task.specs.Task.{Action}
 use Rattle.task.specs.TaskAt.{action_of, task_at, task_of}
+use Rattle.task.specs.Verdict.{Accepted}
 use Rattle.task.specs.declared.index.Case.{Case}
 use Rattle.task.specs.declared.index.Effect.{Effect}
 use Rattle.task.specs.declared.index.Layout.{Layout}
-use Rattle.task.specs.declared.verdict.Verdict.TheVariants.{Accepted}
 use Rattle.task.proofs.Laws.Passed.{passed}
-use Rattle.task_file.proofs.Laws.Rows.{row-length, row_at, map_at}
+use Rattle.task_file.proofs.Laws.Rows.{row-length, row_at}
 use Rattle.task_file.proofs.Laws.Parts.{effects-count}
 
 pub bounds-located : (bytes : List ℕ) → (task_of bytes).bounds ≡ (read_task bytes).layout.index.bounds
@@ -39,7 +40,7 @@ module _ (bytes : List ℕ) (v : ℕ) (accepted : (read_task bytes).verdict ≡ 
   pub action-located : (a : ℕ) → a < l.index.actions → (d : Action) → get_or (task_of bytes).actions a d ≡ action_of bytes (get_or l.offsets a 0)
   unfolding task_of task_at
   action-located a h d =
-      map_at (action_of bytes) (take l.index.actions l.offsets) a 0 d (omega (arith, actions-noted))
+      get_or-map (action_of bytes) (take l.index.actions l.offsets) a 0 d (omega (arith, actions-noted))
       ∙ ap (action_of bytes) (get_or-take l.index.actions l.offsets a 0 h)
 
   module _ (a : ℕ) (h : a < l.index.actions) (d : Action) where

@@ -12,9 +12,8 @@ use lib.ListN.{length, take, drop, length-append, length-drop}
 use lib.Seq.{drop-drop, take_at}
 use Rattle.records.specs.Numbers.{byte_at, u16_at, u64_at, u16_bytes, u64_bytes, number_bytes, AreBytes}
 use Rattle.records.specs.Record.{record_at, record_bytes}
-use Rattle.records.specs.declared.record.Found.TheVariants.{Record}
+use Rattle.records.proofs.Laws.Record.{found_record, record-ends}
 use Rattle.records.proofs.Laws.Bytes.{length-number, byte-behind, behind, u16-read, u64-read, u16-written, u64-written, record-read, body-read, rest_read, record-written}
-use Rattle.records.proofs.Laws.Record.{record-ends}
 use Rattle.task.specs.Bounds.{bounds_at}
 use Rattle.task.specs.Facts.{literals_at, consistent, pair_consistent, pairs_before_fault_at, pairs_before_fault}
 use Rattle.task.specs.Index.{row_from, action_at, effect_at, effects_of}
@@ -149,7 +148,7 @@ module _ (bytes : List ℕ) where
     small : length (action_body a) < 2 ^ 16
     small = omega (arith, body-length a)
 
-    pub action-found : record_at bytes at ≡ Record 2 (at + 4) (16 + 32 * length a.effects) (at + 4 + (16 + 32 * length a.effects))
+    pub action-found : record_at bytes at ≡ found_record 2 (at + 4) (16 + 32 * length a.effects) (at + 4 + (16 + 32 * length a.effects))
     unfolding action_record
     action-found = rw (← (body-length a)) (record-read bytes at 2 (action_body a) rest h (omega arith) small)
 
@@ -173,7 +172,7 @@ module _ (bytes : List ℕ) where
 
   -- a case whose record stands at an offset
   module _ (at : ℕ) (c : Case) (rest : List ℕ) (h : drop at bytes ≡ case_record c ++ rest) where
-    pub case-found : record_at bytes at ≡ Record 4 (at + 4) 24 (at + 4 + 24)
+    pub case-found : record_at bytes at ≡ found_record 4 (at + 4) 24 (at + 4 + 24)
     unfolding case_record record_bytes number_bytes
     case-found = rw (← (case-body c)) (record-read bytes at 4 (case_body c) rest h (omega arith) (omega (arith, case-body c)))
 
@@ -198,7 +197,7 @@ module _ (bytes : List ℕ) where
     abbrev preset-body : List ℕ
     preset-body = encode_for p.procedure p.line p.instruction
 
-    pub preset-found : record_at bytes at ≡ Record 3 (at + 4) 5 (at + 4 + 5)
+    pub preset-found : record_at bytes at ≡ found_record 3 (at + 4) 5 (at + 4 + 5)
     unfolding preset_record
     preset-found = record-read bytes at 3 preset-body rest h (omega arith) (omega arith)
 
@@ -226,7 +225,7 @@ module _ (bytes : List ℕ) where
     abbrev bounds-body : List ℕ
     bounds-body = b.facts ∷ b.procedures ∷ b.last ∷ b.stack ∷ u16_bytes b.steps
 
-    pub bounds-found : record_at bytes 0 ≡ Record 1 4 6 10
+    pub bounds-found : record_at bytes 0 ≡ found_record 1 4 6 10
     unfolding bounds_record number_bytes
     bounds-found = record-read bytes 0 1 bounds-body rest h (omega arith) (omega arith)
 
@@ -268,13 +267,13 @@ module _ (bytes : List ℕ) where
         ))
 
     -- a record that is read, given the bytes of its body
-    part-written : (at kind size next : ℕ) (body rest : List ℕ) → record_at bytes at ≡ Record kind (at + 4) size next → length body ≡ size
+    part-written : (at kind size next : ℕ) (body rest : List ℕ) → record_at bytes at ≡ found_record kind (at + 4) size next → length body ≡ size
         → drop (at + 4) bytes ≡ body ++ rest → drop at bytes ≡ record_bytes kind body ++ drop next bytes
     part-written at kind size next body rest found n h =
         record-written bytes at kind (at + 4) size next found (λ k l. are (at + k))
         ∙ ap (λ (l : List ℕ). record_bytes kind l ++ drop next bytes) (cut_out (at + 4) size body rest n h)
 
-    pub action-written : (at size : ℕ) → record_at bytes at ≡ Record 2 (at + 4) size (at + (4 + size)) → size % 32 ≡ 16
+    pub action-written : (at size : ℕ) → record_at bytes at ≡ found_record 2 (at + 4) size (at + (4 + size)) → size % 32 ≡ 16
         → drop at bytes ≡ action_record (action_of bytes at) ++ drop (at + (4 + size)) bytes
     unfolding action_record action_at
     action-written at size found m =
@@ -284,7 +283,7 @@ module _ (bytes : List ℕ) where
         let there = rw (from, ← (action-pairs bytes at)) at (pairs-written at count 0 (omega arith)) in
         part-written at 2 size _ (action_body (action_of bytes at)) _ found (body-length (action_of bytes at) ∙ omega (arith, effects-count bytes at)) there
 
-    pub case-written : (at : ℕ) → record_at bytes at ≡ Record 4 (at + 4) 24 (at + 28)
+    pub case-written : (at : ℕ) → record_at bytes at ≡ found_record 4 (at + 4) 24 (at + 28)
         → drop at bytes ≡ case_record (record { start = u64_at bytes (at + 4); goal = literals_at bytes (at + 4 + 8) }) ++ drop (at + 28) bytes
     unfolding case_record
     case-written at found =
@@ -297,7 +296,7 @@ module _ (bytes : List ℕ) where
         (length-append a b ∙ omega (arith, length-number 8 (u64_at bytes (at + 4)), pair-length (literals_at bytes (at + 4 + 8))))
         (cc (start, goal, append_assoc a b (drop (at + 4 + 8 + 16) bytes)))
 
-    pub preset-written : (at : ℕ) (w : Instruction) → record_at bytes at ≡ Record 3 (at + 4) 5 (at + 9) → triple_at bytes (at + 4 + 2) ≡ encode w
+    pub preset-written : (at : ℕ) (w : Instruction) → record_at bytes at ≡ found_record 3 (at + 4) 5 (at + 9) → triple_at bytes (at + 4 + 2) ≡ encode w
         → drop at bytes
         ≡ preset_record (record { procedure = record { 0 = byte_at bytes (at + 4) }; line = record { 0 = byte_at bytes (at + 4 + 1) }; instruction = w })
         ++ drop (at + 9) bytes
@@ -315,7 +314,7 @@ module _ (bytes : List ℕ) where
           byte-behind bytes (at + 4) 1,
         ))
 
-    pub bounds-written : record_at bytes 0 ≡ Record 1 4 6 10 → bytes ≡ bounds_record (bounds_at bytes 4) ++ drop 10 bytes
+    pub bounds-written : record_at bytes 0 ≡ found_record 1 4 6 10 → bytes ≡ bounds_record (bounds_at bytes 4) ++ drop 10 bytes
     unfolding bounds_record bounds_at number_bytes row_from
     bounds-written found =
         let ends = record-ends bytes 0 1 _ 6 _ found in

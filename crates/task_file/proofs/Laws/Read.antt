@@ -8,6 +8,7 @@ use mathlib.Core.List.{List, [], ◌∷◌, ◌++◌, flat_map, append-nil, appe
 use native.Mathlib.Omega.{arith}
 use lib.ListN.{length, drop, length-append}
 use borrow.Author.Tests.{ltb-true, eqb-true}
+use Rattle.std.specs.Prelude.{Option, Some, None}
 use Rattle.records.specs.Loop.{Turn, ask}
 use Rattle.records.specs.Numbers.{AreBytes, byte_at, u64_at}
 use Rattle.records.specs.Record.{closing}
@@ -21,18 +22,16 @@ use Rattle.task.specs.Index.{action_at}
 use Rattle.task.specs.Instruction.{or_empty, spelled, decode_for, encode, triple_at}
 use Rattle.task.specs.Program.{line_offset}
 use Rattle.task.specs.Outcome.{with_record}
-use Rattle.task.specs.Reading.{State, by_kind, no_layout, begin, refused, accepted, header_turn, action_turn, on_preset, preset_turn, case_turn, close_turn, read_task}
+use Rattle.task.specs.Reading.{State, Reading, by_kind, no_layout, begin, refused, accepted, header_turn, action_turn, on_preset, preset_turn, case_turn, close_turn, read_task}
 use Rattle.task.specs.Task.{Action, Preset, Task, with_case}
 use Rattle.task.specs.TaskAt.{action_of, task_at}
+use Rattle.task.specs.Verdict.{Accepted}
 use Rattle.task.specs.declared.index.Case.{Case}
 use Rattle.task.specs.declared.index.Layout.{Layout}
-use Rattle.task.specs.declared.instruction.Decoded.{Decoded}
-use Rattle.task.specs.declared.instruction.Decoded.TheVariants.{Is, Nothing}
+use Rattle.task.specs.declared.instruction.Instruction.{Instruction}
 use Rattle.task.specs.declared.instruction.Line.{Line}
 use Rattle.task.specs.declared.instruction.Proc.{Proc}
 use Rattle.task.specs.declared.instruction.Triple.{Triple}
-use Rattle.task.specs.declared.reading.Reading.{Reading}
-use Rattle.task.specs.declared.verdict.Verdict.TheVariants.{Accepted}
 use Rattle.task.proofs.Laws.Bounds.{line-within}
 use Rattle.task.proofs.Laws.Instruction.{decoded-for}
 use Rattle.task.proofs.Laws.Kept.{least, greatest, Follows, There, Kinds, IfAccepted, refused-vacuous, ask-if-accepted, reading-keeps}
@@ -184,11 +183,11 @@ module _ (bytes : List ℕ) where
     abbrev triple : Triple
     triple = triple_at bytes (at + 4 + 2)
 
-    on-preset-kept : Follows s.progress.last 3 → There bytes s 3 5 → (d : Decoded)
+    on-preset-kept : Follows s.progress.last 3 → There bytes s 3 5 → (d : Option Instruction)
         → decode_for s.progress.index.bounds s.progress.index.actions procedure line triple ≡ d → Kept (on_preset bytes s (at + 4) (at + 9) d)
     unfolding on_preset line_offset encode with_record by_kind
-    on-preset-kept f r Nothing e = refused-vacuous Meant _ _
-    on-preset-kept f r (Is v) e =
+    on-preset-kept f r None e = refused-vacuous Meant _ _
+    on-preset-kept f r (Some v) e =
         ask-kept _ _ _ _ λ h.
         let b = t.bounds in
         let p : Preset = record { procedure = procedure; line = line; instruction = v } in

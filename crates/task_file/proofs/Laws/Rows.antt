@@ -4,7 +4,7 @@
 use Prim.Native.Nat.{ℕ, zero, suc, ◌+◌, ◌*◌, ◌≤◌, ◌<◌}
 use mathlib.Core.Path.{◌≡◌, refl, sym, ap, ◌∙◌}
 use mathlib.Core.Bool.{Bool, true, false, cond}
-use mathlib.Core.List.{List, [], ◌∷◌, ◌++◌, map, flat_map, append-nil, append_assoc}
+use mathlib.Core.List.{List, [], ◌∷◌, ◌++◌, flat_map, append-nil, append_assoc}
 use mathlib.Core.Logic.{◌↔◌}
 use native.Mathlib.Nat.{add-zero, mul-suc}
 use native.Mathlib.Omega.{arith}
@@ -108,14 +108,9 @@ module _ {A : Type 0} (bytes : List ℕ) (record_of : A → List ℕ) (Good : A 
         row_read l (suc k) rest (every-tail good) (rw (next k x) (behind bytes _ (record_of x) _ here)),
       )
 
--- element number j of a row, and of a list that is mapped
+-- element number j of a row
 pub row_at : {A : Type 0} (read : ℕ → A) (k left j : ℕ) (d : A) → j < left → get_or (row_from read k left) j d ≡ read (k + j)
 unfolding row_from
 row_at read k zero j d h = absurd (omega arith)
 row_at read k (suc left) zero d h = ap read (sym (add-zero k))
 row_at read k (suc left) (suc j) d h = row_at read (suc k) left j d (omega arith) ∙ ap read (omega arith)
-
-pub map_at : {A B : Type 0} (f : A → B) (l : List A) (j : ℕ) (d : A) (e : B) → j < length l → get_or (map f l) j e ≡ f (get_or l j d)
-map_at f [] j d e h = absurd (omega arith)
-map_at f (x ∷ l) zero d e h = refl
-map_at f (x ∷ l) (suc j) d e h = map_at f l j d e (omega arith)

@@ -11,6 +11,7 @@ use lib.Dec.{ltb, eqb}
 use lib.ListN.{length, drop, length-append}
 use lib.Seq.{append_snoc}
 use borrow.Author.Tests.{le-leb, lt-ltb, eq-eqb}
+use Rattle.std.specs.Prelude.{Some}
 use Rattle.records.specs.Loop.{go, ask}
 use Rattle.records.specs.Record.{closing}
 use Rattle.records.proofs.Laws.Bytes.{closing-read}
@@ -27,7 +28,6 @@ use Rattle.task.specs.Reading.{State, begin, no_layout, accepted, refused, by_ki
 use Rattle.task.specs.Task.{Action, Preset, Task, with_case}
 use Rattle.task.specs.declared.bounds.Bounds.{Bounds}
 use Rattle.task.specs.declared.index.Case.{Case}
-use Rattle.task.specs.declared.instruction.Decoded.TheVariants.{Is}
 use Rattle.task.specs.declared.instruction.Line.{Line}
 use Rattle.task.specs.declared.instruction.Proc.{Proc}
 use Rattle.task.proofs.Laws.Bounds.{ranges, line-within}
@@ -152,7 +152,7 @@ module _ (bytes : List ℕ) where
         let same : record { procedure = j; line = i; instruction = p.instruction } ≡ p =
         λ k. record { procedure = record { 0 = read.0 k }; line = record { 0 = read.1 k }; instruction = p.instruction } in
         let decoded = for-decoded t.bounds (length t.actions) p.procedure p.line p.instruction good.procedure good.line good.nonempty in
-        let is : decode_for s.progress.index.bounds s.progress.index.actions j i (triple_at bytes (at + 4 + 2)) ≡ Is p.instruction =
+        let is : decode_for s.progress.index.bounds s.progress.index.actions j i (triple_at bytes (at + 4 + 2)) ≡ Some p.instruction =
         rw (read.0, read.1, read.2, stage.so_far.bounds, stage.so_far.counted) decoded in
         let first : eqb (byte_at s.presets (line_offset s.progress.index.bounds j i)) 0 ≡ true =
         rw (read.0, read.1, stage.so_far.bounds) (eq-eqb _ 0 free) in

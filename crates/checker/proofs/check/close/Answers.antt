@@ -9,17 +9,18 @@ use Rattle.checker.specs.Outcome.{followed_by}
 use Rattle.checker.proofs.Laws.Check.{cases-left, bytes_left, closes}
 use Rattle.checker.proofs.check.close.Goals as goal
 
-pub returns-then-case-index : goal.returns-then-case-index
+pub returns-then-head-index : goal.returns-then-head-index
 unfolding followed_by
-returns-then-case-index c = λ plan program s n e k. cases-left _ plan _ s program _ (omega (arith, e, c.if-case-index.true))
+returns-then-head-index c = λ program callers s st.
+    rw c.at.ensures (cases-left _ c.args.plan.now _ s program _ (omega (arith, st.case, c.if-head-index.true)))
 
-pub returns-then-next-size : goal.returns-then-next-size
+pub returns-then-next-plan : goal.returns-then-next-plan
 unfolding followed_by
-returns-then-next-size c = λ plan program s n e k. bytes_left _ plan _ s program _ (omega (arith, e, c.if-case-index.false)) (omega (arith, n, c.if-next-size.true))
+returns-then-next-plan c = λ program callers s st.
+    rw c.at-then-next-plan.ensures (bytes_left _ c.args.plan.now _ s program _ (omega (arith, st.case, c.if-head-index.false)) c.if-next-plan.true)
 
 pub returns : goal.returns
 unfolding followed_by
-returns c =
-    λ plan program s n e k.
-    ap (λ (steps : ℕ). stop (accepted steps program)) (omega (arith, k))
-    ∙ closes _ plan _ s program _ (omega (arith, e, c.if-case-index.false)) (omega (arith, n, c.if-next-size.false))
+returns c = λ program callers s st.
+    ap (λ (steps : ℕ). stop (accepted steps program)) (omega (arith, st.steps))
+    ∙ closes _ c.args.plan.now _ s program _ (omega (arith, st.case, c.if-head-index.false)) c.if-next-plan.false

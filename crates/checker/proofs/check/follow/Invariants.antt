@@ -7,8 +7,8 @@ use Rattle.checker.specs.Check.{follow}
 use Rattle.checker.proofs.Laws.Follow.{Following}
 use Rattle.checker.proofs.check.follow.Given as goal
 
-abbrev pub invariant-loop-question : goal.invariant-loop-question
-invariant-loop-question l = Following l.task l.index l.offsets l.plan (follow l.task (record { index = l.index; offsets = l.offsets; presets = l.initial.program }) l.plan) l.at l.program l.head l.callers
+abbrev pub invariant-loop-read : goal.invariant-loop-read
+invariant-loop-read l = let t = l.fn.task in Following t.bytes.now t.index t.offsets.now l.plan (follow t.bytes.now (record { index = t.index; offsets = t.offsets.now; presets = l.initial.program }) l.plan) l.at l.program l.head l.callers
 
-abbrev pub decreases-loop-question : goal.decreases-loop-question
-decreases-loop-question l = length l.plan - l.at
+abbrev pub decreases-loop-read : goal.decreases-loop-read
+decreases-loop-read l = length l.plan - l.at

@@ -1,6 +1,6 @@
 -- `checker::check::line_fits` meets its contract: question 18 of a write, and of a repeat.
 -- Assumes nothing.
-use Rattle.task.specs.Program.{same_triple}
+use mathlib.Core.Path.{◌∙◌}
 use Rattle.checker.specs.Check.{line_fits}
 use Rattle.checker.proofs.Laws.Check.{line-repeats}
 use Rattle.checker.proofs.check.line_fits.Goals as goal
@@ -10,5 +10,4 @@ unfolding line_fits
 returns-in-Write c = rw c.in-Write.is
 
 pub returns-in-Repeat : goal.returns-in-Repeat
-unfolding same_triple
-returns-in-Repeat c = line-repeats _ _ c.requires _ c.in-Repeat.is _
+returns-in-Repeat c = c.eq.ensures ∙ line-repeats _ _ c.requires _ c.in-Repeat.is _

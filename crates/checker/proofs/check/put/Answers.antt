@@ -4,4 +4,4 @@ use Rattle.checker.proofs.Laws.Records.{put_in}
 use Rattle.checker.proofs.check.put.Goals as goal
 
 pub returns : goal.returns
-returns c = rw c.copy_from_slice.ensures.after (put_in _ _ _ _)
+returns c = rw c.copy_from_slice.ensures.after (put_in _ _ _)

@@ -1,51 +1,52 @@
 -- `checker::check::read_record` meets its contract: questions 11 to 14 decide, and of a step its body's.
 -- Assumes nothing.
-use native.Mathlib.Omega.{arith}
+use mathlib.Core.Path.{◌≡◌, sym, ap, ◌∙◌}
+use mathlib.Core.Bool.{false≢true}
+use denote.Enum.Bare.{same_true}
+use Rattle.std.proofs.Common.{rules}
+use Rattle.std.proofs.lemmas.Result.{err_from_is_err_and}
+use Rattle.checker.specs.Kind.{kind_number}
 use Rattle.checker.specs.Outcome.{read_turn, ReadyAt}
-use Rattle.checker.proofs.Laws.Check.{shaped, shaped-left, record-missing, shape-refused, closing-record, step-record, step-there}
+use Rattle.checker.specs.contracts.kind.PlanKind.{the_type}
+use Rattle.checker.specs.declared.kind.PlanKind.TheVariants.{Closing}
+use Rattle.checker.proofs.Laws.Check.{shaped, shaped-left, not-closing, record-missing, shape-refused, closing-record, step-record, step-there}
 use Rattle.checker.proofs.check.read_record.Goals as goal
 
-pub returns-in_default : goal.returns-in_default
-unfolding read_turn ReadyAt
-returns-in_default c = (
-  λ bytes offsets program callers s st.
-      record-missing bytes _ offsets _ _ s program _ c.plan_record-found.ensures c.in_default.is,
-  tt,
-)
+pub returns-in_default-clause-turn : goal.returns-in_default-clause-turn
+unfolding read_turn
+returns-in_default-clause-turn c =
+    λ program callers s st. record-missing _ _ _ _ _ s program _ c.plan_record.ensures c.in_default.is
 
-pub returns-then-no-ne0 : goal.returns-then-no-ne0
-unfolding read_turn ReadyAt
-returns-then-no-ne0 c = (
-  λ bytes offsets program callers s st.
-      shape-refused bytes _ offsets _ _ s program _ c.plan_record-found.ensures _ _ _ _ c.in-Record.is _
-      (rw st.steps c.shape_no-no.ensures) (omega (arith, c.if-no-ne0.true)),
-  tt,
-)
+pub returns-in_err-kind-clause-turn : goal.returns-in_err-kind-clause-turn
+unfolding read_turn
+returns-in_err-kind-clause-turn c =
+    let p = err_from_is_err_and c.from_residual.result c.from_residual.ensures.1 in
+    rw (p.1, p.2)
+    (λ program callers s st.
+    shape-refused _ _ _ _ _ s program _ c.plan_record.ensures _ c.in-Some.is _ (rw st.steps c.in_err-kind.ensures))
 
-pub returns-then-kind-eq5 : goal.returns-then-kind-eq5
-unfolding read_turn ReadyAt
-returns-then-kind-eq5 c =
-    let y = shaped _ _ _ _ c.shape_no-no.ensures c.if-no-ne0.false in (
-      λ bytes offsets program callers s st.
-          closing-record bytes _ offsets _ _ s program _ c.plan_record-found.ensures _ _ _ _ c.in-Record.is (rw st.steps y)
-          c.if-kind-eq5.true,
-      tt,
-    )
+pub returns-then-eq-clause-turn : goal.returns-then-eq-clause-turn
+unfolding read_turn
+returns-then-eq-clause-turn c =
+    let closing : c.in_ok-kind.kind ≡ Closing = same_true the_type (search rules) _ _ (sym c.if-eq.ensures) in
+    λ program callers s st.
+    closing-record _ _ _ _ _ s program _ c.plan_record.ensures _ c.in-Some.is
+    (rw st.steps (shaped _ _ _ c.in_ok-kind.ensures.1)) (c.in_ok-kind.ensures.0 ∙ ap kind_number closing)
 
+pub returns-then-eq-clause-ready : goal.returns-then-eq-clause-ready
+unfolding ReadyAt
+returns-then-eq-clause-ready c = tt
+
+-- past the test the record is a step's
 pub read_step-requires : goal.read_step-requires
 read_step-requires c =
-    let y = shaped _ _ _ _ c.shape_no-no.ensures c.if-no-ne0.false in (
-      c.requires,
-      shaped-left _ _ _ _ y c.if-kind-eq5.false,
-      step-there _ _ _ c.plan_record-found.ensures _ _ _ _ c.in-Record.is y.fits c.if-kind-eq5.false,
-    )
+    let y = shaped _ _ _ c.in_ok-kind.ensures.1 in
+    let step = not-closing _ _ c.in_ok-kind.ensures.0 (λ z. false≢true (rw z at c.if-eq.ensures)) in
+    (shaped-left _ _ _ _ y step, step-there _ _ _ c.plan_record.ensures _ c.in-Some.is y.fits step)
 
-pub returns : goal.returns
-unfolding read_turn ReadyAt
-returns c =
-    let y = shaped _ _ _ _ c.shape_no-no.ensures c.if-no-ne0.false in (
-      λ bytes offsets program callers s st.
-          step-record bytes _ offsets _ _ s program _ c.plan_record-found.ensures _ _ _ _ c.in-Record.is (rw st.steps y)
-          c.if-kind-eq5.false _ (c.read_step.ensures.0 bytes offsets program _ callers s st),
-      c.read_step.ensures.1,
-    )
+pub returns-clause-turn : goal.returns-clause-turn
+returns-clause-turn c =
+    let step = not-closing _ _ c.in_ok-kind.ensures.0 (λ z. false≢true (rw z at c.if-eq.ensures)) in
+    λ program callers s st.
+    step-record _ _ _ _ _ s program _ c.plan_record.ensures _ c.in-Some.is (rw st.steps (shaped _ _ _ c.in_ok-kind.ensures.1)) step _
+    (rw c.in_ok-kind.ensures.0 (c.read_step.ensures.turn program _ callers s st))

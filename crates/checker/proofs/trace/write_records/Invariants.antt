@@ -1,12 +1,8 @@
 -- `checker::trace::write_records` meets its contract: question 29 asks for the plan's bytes, and behind k steps `lines` and the buffer's bytes are
--- those of the first k bytes of the trace.
+-- those of the trace's first k frames.
 -- Assumes nothing.
-use Prim.Native.Nat.{◌-◌, ◌≤◌}
 use Rattle.checker.proofs.Laws.Records.{Putting}
 use Rattle.checker.proofs.trace.write_records.Given as goal
 
 abbrev pub invariant-loop-k : goal.invariant-loop-k
-invariant-loop-k l = (l.k ≤ l.steps) × Putting l.bounds l.program l.fn.presets l.trace l.initial.buffer l.k l.lines l.buffer
-
-abbrev pub decreases-loop-k : goal.decreases-loop-k
-decreases-loop-k l = l.steps - l.k
+invariant-loop-k l = Putting l.bounds l.program l.fn.presets l.trace l.initial.buffer l.k l.lines l.buffer

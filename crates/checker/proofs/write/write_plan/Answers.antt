@@ -1,29 +1,23 @@
 -- `checker::write::write_plan` meets its contract: the task's verdict decides, then the program's, then what the run comes to.
 -- Assumes nothing.
 use mathlib.Core.Path.{◌∙◌}
-use Rattle.checker.proofs.Laws.Answer.{task-turned-down, program-refused, runs_of, run-answers}
+use Rattle.std.proofs.lemmas.Result.{err_from_is_err_and}
+use Rattle.step.proofs.Laws.Ready.{read-held}
+use Rattle.checker.proofs.Laws.Answer.{task-turned-down, program-refused, run-answers}
 use Rattle.checker.proofs.write.write_plan.Goals as goal
 
-pub returns-in_default : goal.returns-in_default
-returns-in_default c =
-    let a = c.args in
-    task-turned-down a.task.now a.program.now a.buffer.now _ c.read_task-reading.ensures _ _ c.in_default.is
+pub returns-in_err-layout : goal.returns-in_err-layout
+returns-in_err-layout c =
+    let p = err_from_is_err_and c.from_residual.result c.from_residual.ensures.1 in
+    rw (p.1, p.2) (task-turned-down _ _ _ _ c.in_err-layout.ensures)
 
-pub returns-in_default-checked : goal.returns-in_default-checked
-returns-in_default-checked c =
-    let a = c.args in
-    program-refused a.task.now a.program.now a.buffer.now _ c.read_task-reading.ensures _ c.in-Accepted.is _
-    c.check_program-checked.ensures _ _ c.in_default-checked.is
+pub returns-in_err-check_program : goal.returns-in_err-check_program
+returns-in_err-check_program c =
+    let p = err_from_is_err_and c.from_residual-in_err-check_program.result c.from_residual-in_err-check_program.ensures.1 in
+    rw (p.1, p.2) (program-refused _ _ _ _ c.in_ok-layout.ensures _ c.in_err-check_program.ensures)
 
-pub run-requires : goal.run-requires
-run-requires c =
-    let a = c.args in
-    runs_of a.task.now a.program.now a.buffer.now _ c.read_task-reading.ensures _ c.in-Accepted.is _
-    c.check_program-checked.ensures _ c.in-Accepted-checked.is
+pub invariant_of-held : goal.invariant_of-held
+invariant_of-held c = record { held = read-held _ _ c.in_ok-layout.ensures }
 
 pub returns : goal.returns
-returns c =
-    let a = c.args in
-    c.run.ensures
-    ∙ run-answers a.task.now a.program.now a.buffer.now _ c.read_task-reading.ensures _ c.in-Accepted.is _
-    c.check_program-checked.ensures _ c.in-Accepted-checked.is
+returns c = c.run.ensures ∙ run-answers _ _ c.args.buffer.now _ c.in_ok-layout.ensures c.in_ok-check_program.ensures

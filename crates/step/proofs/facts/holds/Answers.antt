@@ -5,4 +5,4 @@ use Rattle.step.proofs.Laws.Facts.{holds-word}
 use Rattle.step.proofs.facts.holds.Goals as goal
 
 pub returns : goal.returns
-returns c = holds-word _ _ (search rules) (search rules)
+returns c = holds-word _ _ (search rules) (search rules) (search rules)

@@ -13,6 +13,6 @@ returns c =
     λ i.
     depth-tests args.index args.position
     (leb args.position.case args.index.cases
-    && c.within-fits.ensures i
+    && c.within.ensures i
     && leb args.position.steps args.index.bounds.steps) i
     && c.frames_fit.ensures i

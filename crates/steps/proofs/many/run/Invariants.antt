@@ -1,13 +1,12 @@
--- `steps::many::run` meets its contract: the head over its frames is the position that as many single steps reach as are done.
+-- `steps::many::run` meets its contract: the head over its frames is the position that as many single steps reach as are made.
 -- Assumes nothing.
-use Rattle.std.proofs.Common.{◌+◌, ◌-◌, ◌<◌}
-use Rattle.steps.proofs.Laws.Running.{Reached, Refuses}
+use Rattle.std.proofs.Common.{◌≡◌, None}
+use Rattle.steps.proofs.Laws.Running.{Reached}
 use Rattle.steps.proofs.many.run.Given as goal
 
-abbrev pub invariant-loop-question : goal.invariant-loop-question
-invariant-loop-question l =
-    Reached l.task l.index l.program l.first l.wanted l.head l.frames
-    × (0 < l.question → Refuses l.task l.program l.first l.wanted l.head l.frames l.question)
-
-abbrev pub decreases-loop-question : goal.decreases-loop-question
-decreases-loop-question l = l.until - l.head.steps + (1 - l.question)
+abbrev pub invariant-loop : goal.invariant-loop
+invariant-loop l =
+    record {
+      reached : Reached l.task.bytes.now l.task.index l.program l.first l.wanted l.counter l.head l.frames;
+      none : l.refusal ≡ None;
+    }

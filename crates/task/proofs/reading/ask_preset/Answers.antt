@@ -16,7 +16,7 @@ returns-then-presets-offset-ne0 c =
     c.line_offset-offset.ensures c.if-not-decodes_for.false (omega (arith, c.if-presets-offset-ne0.true))
 
 pub put_triple-requires : goal.put_triple-requires
-put_triple-requires c = preset-room _ _ _ _ _ _ c.decodes_for.ensures c.if-not-decodes_for.false c.requires.1 _ c.line_offset-offset.ensures c.args.presets.now c.requires.2
+put_triple-requires c = preset-room _ _ _ _ _ _ c.decodes_for.ensures c.if-not-decodes_for.false c.requires.1 _ c.line_offset-offset.ensures c.args.presets.now c.told-presets
 
 pub returns : goal.returns
 returns c =

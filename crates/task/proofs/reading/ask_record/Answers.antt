@@ -1,51 +1,83 @@
 -- `task::reading::ask_record` meets its contract: questions 2 and 3 decide, and then what the kind asks.
 -- Assumes nothing.
-use mathlib.Core.Path.{sym, ◌∙◌}
+use mathlib.Core.Path.{refl, sym, ap}
 use native.Mathlib.Omega.{arith}
-use Rattle.task.proofs.Laws.Reading.{kind-no, length-no, kind-turn, header-body, preset-body, case-body, kind-header, kind-action, kind-preset, kind-case, kind-close, header-no, header-yes}
+use Rattle.std.specs.Prelude.{Ok, Err}
+use Rattle.std.proofs.lemmas.Result.{err_from_is_err_and}
+use Rattle.task.specs.Kind.{kind_number}
+use Rattle.task.proofs.Laws.Reading.{header-body, preset-body, case-body}
+use Rattle.task.proofs.Laws.Turns.{unknown-kind, kind-not, length-not, asks-header, asks-action, asks-preset, asks-case, asks-close}
 use Rattle.task.proofs.reading.ask_record.Goals as goal
 
-pub returns-then-not-may_stand : goal.returns-then-not-may_stand
-returns-then-not-may_stand c = λ next. kind-no _ _ _ _ _ next _ _ _ c.may_stand.ensures c.if-not-may_stand.true
+pub returns-in_default-clause-turn : goal.returns-in_default-clause-turn
+returns-in_default-clause-turn c = unknown-kind _ _ _ _ _ c.in_default.ensures
 
-pub returns-then-not-length_fits : goal.returns-then-not-length_fits
-returns-then-not-length_fits c = λ next. length-no _ _ _ _ _ next _ _ _ c.may_stand.ensures c.if-not-may_stand.false _ c.length_fits.ensures c.if-not-length_fits.true
+pub returns-then-not-may_stand-clause-turn : goal.returns-then-not-may_stand-clause-turn
+returns-then-not-may_stand-clause-turn c = kind-not _ _ _ _ _ _ c.in-Ok.ensures c.if-not-may_stand.ensures
 
-pub bounds_at-requires : goal.bounds_at-requires
-bounds_at-requires c = header-body _ _ _ _ c.requires.0 (sym c.length_fits.ensures ∙ c.if-not-length_fits.false) c.in-1.is
+pub returns-then-not-length_fits-clause-turn : goal.returns-then-not-length_fits-clause-turn
+returns-then-not-length_fits-clause-turn c = length-not _ _ _ _ _ _ c.in-Ok.ensures c.if-not-may_stand.ensures c.if-not-length_fits.ensures
 
-pub returns-then-in_range : goal.returns-then-in_range
-returns-then-in_range c =
-    λ next. kind-turn _ _ _ _ _ next _ _ _ c.may_stand.ensures c.if-not-may_stand.false _ c.length_fits.ensures c.if-not-length_fits.false _
-    (kind-header _ _ _ _ _ next _ _ _ _ _ c.in-1.is (header-yes _ _ _ next _ _ _ _ c.bounds_at.ensures c.in_range.ensures c.if-in_range.true))
+pub ask_header-requires : goal.ask_header-requires
+ask_header-requires c = header-body _ _ _ _ c.requires.0 (rw c.in-Header.is at (sym c.if-not-length_fits.ensures)) refl
 
 pub ask_preset-requires : goal.ask_preset-requires
-ask_preset-requires c = (preset-body _ _ _ _ c.requires.0 (sym c.length_fits.ensures ∙ c.if-not-length_fits.false) c.in-3.is, c.requires.1 (sym c.may_stand.ensures ∙ c.if-not-may_stand.false) (omega (arith, c.in-3.is)), c.requires.2)
+ask_preset-requires c = (
+  preset-body _ _ _ _ c.requires.0 (rw c.in-Preset.is at (sym c.if-not-length_fits.ensures)) refl,
+  c.requires.1 (rw c.in-Ok.ensures (sym c.if-not-may_stand.ensures)) (omega (arith, c.in-Ok.ensures, ap kind_number c.in-Preset.is)),
+)
 
 pub ask_case-requires : goal.ask_case-requires
-ask_case-requires c = case-body _ _ _ _ c.requires.0 (sym c.length_fits.ensures ∙ c.if-not-length_fits.false) c.in-4.is
+ask_case-requires c = case-body _ _ _ _ c.requires.0 (rw c.in-Case.is at (sym c.if-not-length_fits.ensures)) refl
 
-pub returns-else-in_range : goal.returns-else-in_range
-returns-else-in_range c =
-    λ next. kind-turn _ _ _ _ _ next _ _ _ c.may_stand.ensures c.if-not-may_stand.false _ c.length_fits.ensures c.if-not-length_fits.false _
-    (kind-header _ _ _ _ _ next _ _ _ _ _ c.in-1.is (header-no _ _ _ next _ _ _ _ c.bounds_at.ensures c.in_range.ensures c.if-in_range.false))
+pub returns-in_err-ask_header-in-Header-clause-turn : goal.returns-in_err-ask_header-in-Header-clause-turn
+returns-in_err-ask_header-in-Header-clause-turn c =
+    let p = err_from_is_err_and c.from_residual.result c.from_residual.ensures.1 in
+    rw (p.1, p.2)
+    (asks-header _ _ _ _ _ _ c.in-Ok.ensures c.if-not-may_stand.ensures c.if-not-length_fits.ensures _ _ (Err _) c.in-Header.is
+    (c.in_err-ask_header-in-Header.ensures _ _ _ _))
 
-pub returns-in-2 : goal.returns-in-2
-returns-in-2 c =
-    λ next. kind-turn _ _ _ _ _ next _ _ _ c.may_stand.ensures c.if-not-may_stand.false _ c.length_fits.ensures c.if-not-length_fits.false _
-    (kind-action _ _ _ _ _ next _ _ _ _ _ c.in-2.is (c.ask_action.ensures next _))
+pub returns-in_ok-ask_header-in-Header-clause-turn : goal.returns-in_ok-ask_header-in-Header-clause-turn
+returns-in_ok-ask_header-in-Header-clause-turn c =
+    asks-header _ _ _ _ _ _ c.in-Ok.ensures c.if-not-may_stand.ensures c.if-not-length_fits.ensures _ _ (Ok _) c.in-Header.is
+    (c.in_ok-ask_header-in-Header.ensures _ _ _ _)
 
-pub returns-in-3 : goal.returns-in-3
-returns-in-3 c =
-    λ next. kind-turn _ _ _ _ _ next _ _ _ c.may_stand.ensures c.if-not-may_stand.false _ c.length_fits.ensures c.if-not-length_fits.false _
-    (kind-preset _ _ _ _ _ next _ _ _ _ _ c.in-3.is (c.ask_preset.ensures next _))
+pub returns-in_err-ask_action-in-Action-clause-turn : goal.returns-in_err-ask_action-in-Action-clause-turn
+returns-in_err-ask_action-in-Action-clause-turn c =
+    let p = err_from_is_err_and c.from_residual-in_err-ask_action-in-Action.result c.from_residual-in_err-ask_action-in-Action.ensures.1 in
+    rw (p.1, p.2)
+    (asks-action _ _ _ _ _ _ c.in-Ok.ensures c.if-not-may_stand.ensures c.if-not-length_fits.ensures _ _ (Err _) c.in-Action.is
+    (c.in_err-ask_action-in-Action.ensures _ _))
 
-pub returns-in-4 : goal.returns-in-4
-returns-in-4 c =
-    λ next. kind-turn _ _ _ _ _ next _ _ _ c.may_stand.ensures c.if-not-may_stand.false _ c.length_fits.ensures c.if-not-length_fits.false _
-    (kind-case _ _ _ _ _ next _ _ _ _ _ c.in-4.is (c.ask_case.ensures next _ _))
+pub returns-in_ok-ask_action-in-Action-clause-turn : goal.returns-in_ok-ask_action-in-Action-clause-turn
+returns-in_ok-ask_action-in-Action-clause-turn c =
+    asks-action _ _ _ _ _ _ c.in-Ok.ensures c.if-not-may_stand.ensures c.if-not-length_fits.ensures _ _ (Ok _) c.in-Action.is
+    (c.in_ok-ask_action-in-Action.ensures _ _)
 
-pub returns-in_default : goal.returns-in_default
-returns-in_default c =
-    λ next. kind-turn _ _ _ _ _ next _ _ _ c.may_stand.ensures c.if-not-may_stand.false _ c.length_fits.ensures c.if-not-length_fits.false _
-    (kind-close _ _ _ _ _ next _ _ (omega arith) (omega arith) (omega arith) (omega arith))
+pub returns-in_err-ask_preset-in-Preset-clause-turn : goal.returns-in_err-ask_preset-in-Preset-clause-turn
+returns-in_err-ask_preset-in-Preset-clause-turn c =
+    let p = err_from_is_err_and c.from_residual-in_err-ask_preset-in-Preset.result c.from_residual-in_err-ask_preset-in-Preset.ensures.1 in
+    rw (p.1, p.2)
+    (asks-preset _ _ _ _ _ _ c.in-Ok.ensures c.if-not-may_stand.ensures c.if-not-length_fits.ensures _ _ (Err _) c.in-Preset.is
+    (c.in_err-ask_preset-in-Preset.ensures _ _))
+
+pub returns-in_ok-ask_preset-in-Preset-clause-turn : goal.returns-in_ok-ask_preset-in-Preset-clause-turn
+returns-in_ok-ask_preset-in-Preset-clause-turn c =
+    asks-preset _ _ _ _ _ _ c.in-Ok.ensures c.if-not-may_stand.ensures c.if-not-length_fits.ensures _ _ (Ok _) c.in-Preset.is
+    (c.in_ok-ask_preset-in-Preset.ensures _ _)
+
+pub returns-in_err-ask_case-in-Case-clause-turn : goal.returns-in_err-ask_case-in-Case-clause-turn
+returns-in_err-ask_case-in-Case-clause-turn c =
+    let p = err_from_is_err_and c.from_residual-in_err-ask_case-in-Case.result c.from_residual-in_err-ask_case-in-Case.ensures.1 in
+    rw (p.1, p.2)
+    (asks-case _ _ _ _ _ _ c.in-Ok.ensures c.if-not-may_stand.ensures c.if-not-length_fits.ensures _ _ (Err _) c.in-Case.is
+    (c.in_err-ask_case-in-Case.ensures _ _ _))
+
+pub returns-in_ok-ask_case-in-Case-clause-turn : goal.returns-in_ok-ask_case-in-Case-clause-turn
+returns-in_ok-ask_case-in-Case-clause-turn c =
+    asks-case _ _ _ _ _ _ c.in-Ok.ensures c.if-not-may_stand.ensures c.if-not-length_fits.ensures _ _ (Ok _) c.in-Case.is
+    (c.in_ok-ask_case-in-Case.ensures _ _ _)
+
+pub returns-in-Closing-clause-turn : goal.returns-in-Closing-clause-turn
+returns-in-Closing-clause-turn c =
+    asks-close _ _ _ _ _ _ c.in-Ok.ensures c.if-not-may_stand.ensures c.if-not-length_fits.ensures c.in-Closing.is

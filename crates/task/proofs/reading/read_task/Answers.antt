@@ -1,18 +1,21 @@
 -- `task::reading::read_task` meets its contract: the records' answer, with the arrays that they filled.
 -- Assumes nothing.
-use mathlib.Core.Path.{refl, ◌∙◌}
+use mathlib.Core.Path.{refl}
+use Rattle.std.proofs.lemmas.Result.{err_from_is_err_and}
 use Rattle.task.specs.Outcome.{reading_of}
-use Rattle.task.specs.Reading.{no_layout, accepted}
+use Rattle.task.specs.Reading.{no_layout, accepted, reading}
 use Rattle.task.proofs.reading.read_task.Goals as goal
 
-pub read_records-ended-requires : goal.read_records-ended-requires
+pub read_records-requires : goal.read_records-requires
 unfolding no_layout
-read_records-ended-requires c = (refl, refl)
+read_records-requires c = (refl, refl)
 
-pub returns-in-Refused : goal.returns-in-Refused
-unfolding reading_of
-returns-in-Refused c = c.refused.ensures ∙ (rw c.in-Refused.is at c.read_records-ended.ensures)
+pub returns-in_err-layout : goal.returns-in_err-layout
+unfolding reading_of reading
+returns-in_err-layout c =
+    let p = err_from_is_err_and c.from_residual.result c.from_residual.ensures.1 in
+    rw (p.1, p.2) c.in_err-layout.ensures
 
-pub returns-in-Passed : goal.returns-in-Passed
-unfolding reading_of accepted
-returns-in-Passed c = rw c.in-Passed.is at c.read_records-ended.ensures
+pub returns : goal.returns
+unfolding reading_of reading accepted
+returns c = c.in_ok-layout.ensures

@@ -1,6 +1,7 @@
 -- `task::reading::with_record` meets its contract, kind by kind.
 -- Assumes nothing.
-use mathlib.Core.Path.{◌≡◌, ap}
+use mathlib.Core.Path.{◌≡◌, refl, ap}
+use mathlib.Core.Logic.{inl, inr}
 use native.Mathlib.Omega.{arith}
 use Rattle.task.specs.declared.index.Index.{Index}
 use Rattle.task.proofs.Laws.Reading.{with-header, with-action, with_first, with-later, with-other}
@@ -8,24 +9,30 @@ use Rattle.task.proofs.reading.with_record.Goals as goal
 use Rattle.task.proofs.reading.with_record.Goals.{then-index-eq0, else-index-eq0}
 
 pub bounds_at-requires : goal.bounds_at-requires
-bounds_at-requires c = c.requires.0 c.in-1.is
+bounds_at-requires c = c.requires.0 c.in-Header.is
 
-pub returns-in-1 : goal.returns-in-1
-returns-in-1 c = with-header _ _ _ _ _ _ c.bounds_at.ensures c.in-1.is
+pub returns-in-Header : goal.returns-in-Header
+returns-in-Header c =
+    let d = c.default.ensures in
+    rw (c.in-Header.is, d.1.0, d.1.1.0, d.1.1.1) (with-header _ _ _ _ _ _ c.bounds_at.ensures refl)
 
-pub overflow_add-index-in-4 : goal.overflow_add-index-in-4
-overflow_add-index-in-4 c =
+pub overflow_add-index-in-Case : goal.overflow_add-index-in-Case
+overflow_add-index-in-Case c =
     let counts : (i j : Index) → i ≡ j → i.cases ≡ j.cases = λ i j e. ap (λ (k : Index). k.cases) e in
     elim c.if-index-eq0.branch [ then-index-eq0 w ↦ omega (arith, counts _ _ w.index-is) | else-index-eq0 w ↦ omega (arith, counts _ _ w.index-is) ]
 
-pub returns-in-2 : goal.returns-in-2
-returns-in-2 c = with-action _ _ _ _ _ c.in-2.is
+pub returns-in-Action : goal.returns-in-Action
+returns-in-Action c = rw c.in-Action.is (with-action _ _ _ _ _ refl)
 
 pub returns-after-index-eq0 : goal.returns-after-index-eq0
-returns-after-index-eq0 c = elim c.if-index-eq0.branch [
-  | then-index-eq0 w ↦ with_first _ _ _ _ _ _ c.in-4.is w.if-index-eq0.true w.index-is
-  | else-index-eq0 w ↦ with-later _ _ _ _ _ _ c.in-4.is w.if-index-eq0.false w.index-is
-]
+returns-after-index-eq0 c = rw c.in-Case.is (elim c.if-index-eq0.branch [
+  | then-index-eq0 w ↦ with_first _ _ _ _ _ _ refl w.if-index-eq0.true w.index-is
+  | else-index-eq0 w ↦ with-later _ _ _ _ _ _ refl w.if-index-eq0.false w.index-is
+])
 
-pub returns-in_default : goal.returns-in_default
-returns-in_default c = with-other _ _ _ _ _ (omega arith) (omega arith) (omega arith)
+pub returns-in-Preset : goal.returns-in-Preset
+returns-in-Preset c =
+    elim c.in-Preset.is [
+      | inl e ↦ rw e (with-other _ _ _ _ _ (λ h. omega arith) (λ h. omega arith) (λ h. omega arith))
+      | inr e ↦ rw e (with-other _ _ _ _ _ (λ h. omega arith) (λ h. omega arith) (λ h. omega arith))
+    ]

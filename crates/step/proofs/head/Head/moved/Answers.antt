@@ -2,31 +2,18 @@
 -- depth and the cases left an end.
 -- Assumes nothing.
 use mathlib.Core.Path.{refl, ◌∙◌}
-use native.Mathlib.Omega.{arith}
 use Rattle.records.proofs.Laws.Tests.{cond_yes, cond_no}
 use Rattle.step.specs.Head.{counted_head, moved_head, head_with, advanced_head, caller_of, goto_head}
 use Rattle.step.proofs.Laws.Head.{moves-as, ended-pops, ended-begins, ended-finishes}
 use Rattle.step.proofs.head.Head.moved.Goals as goal
 
-pub overflow_add-self : goal.overflow_add-self
-overflow_add-self c = record { fits = omega (arith, c.requires.0.steps) }
-
 pub returns-in-Empty : goal.returns-in-Empty
 unfolding moved_head counted_head
 returns-in-Empty c = let a = c.args in moves-as a.task.now a.index a.self a.below a.facts a.w _ c.in-Empty.is _ refl
 
-pub advanced-requires : goal.advanced-requires
-advanced-requires c = c.requires.0.line
-
 pub returns-in-Act : goal.returns-in-Act
 unfolding moved_head counted_head head_with advanced_head caller_of
 returns-in-Act c = let a = c.args in moves-as a.task.now a.index a.self a.below a.facts a.w _ c.in-Act.is _ c.advanced.ensures
-
-pub has-requires : goal.has-requires
-has-requires c = c.requires.0.fact _ _ c.in-Goto.is
-
-pub advanced-requires-then-has : goal.advanced-requires-then-has
-advanced-requires-then-has c = c.requires.0.line
 
 pub returns-then-has : goal.returns-then-has
 unfolding moved_head counted_head goto_head
@@ -35,22 +22,16 @@ returns-then-has c =
     moves-as a.task.now a.index a.self a.below a.facts a.w _ c.in-Goto.is _
     (c.advanced-then-has.ensures ∙ cond_yes _ _ _ _ c.has.ensures c.if-has.true)
 
-pub returns-in-Goto : goal.returns-in-Goto
+pub returns-else-has : goal.returns-else-has
 unfolding moved_head counted_head goto_head
-returns-in-Goto c =
+returns-else-has c =
     let a = c.args in
     moves-as a.task.now a.index a.self a.below a.facts a.w _ c.in-Goto.is _
     (c.jumped.ensures ∙ cond_no _ _ _ _ c.has.ensures c.if-has.false)
 
-pub pushed-requires : goal.pushed-requires
-pushed-requires c = omega (arith, c.requires.0.depth)
-
 pub returns-in-Call : goal.returns-in-Call
 unfolding moved_head counted_head
 returns-in-Call c = let a = c.args in moves-as a.task.now a.index a.self a.below a.facts a.w _ c.in-Call.is _ c.pushed.ensures
-
-pub popped-requires : goal.popped-requires
-popped-requires c = c.requires.0.above
 
 pub returns-then-self-gt1 : goal.returns-then-self-gt1
 unfolding moved_head counted_head
@@ -58,22 +39,16 @@ returns-then-self-gt1 c =
     let a = c.args in
     moves-as a.task.now a.index a.self a.below a.facts a.w _ c.in-End.is _ (ended-pops a.task.now a.index (counted_head a.self) a.below c.popped.result c.if-self-gt1.true c.popped.ensures)
 
-pub overflow_add-next : goal.overflow_add-next
-overflow_add-next c = record { fits = omega (arith, c.requires.0.case) }
-
-pub case_at-case-requires : goal.case_at-case-requires
-case_at-case-requires c = let pre = c.requires in omega (arith, pre.1, c.if-next-index.true)
-
 pub returns-then-next-index : goal.returns-then-next-index
 unfolding moved_head counted_head
 returns-then-next-index c =
     let a = c.args in
     moves-as a.task.now a.index a.self a.below a.facts a.w _ c.in-End.is _
-    (ended-begins a.task.now a.index (counted_head a.self) a.below c.next_case.result c.if-self-gt1.false c.if-next-index.true _ c.case_at-case.ensures c.next_case.ensures)
+    (ended-begins a.task.now a.index (counted_head a.self) a.below c.next_case.result c.if-self-gt1.false c.if-next-index.true _ c.case_at-start.ensures c.next_case.ensures)
 
-pub returns-in-End : goal.returns-in-End
+pub returns-else-next-index : goal.returns-else-next-index
 unfolding moved_head counted_head
-returns-in-End c =
+returns-else-next-index c =
     let a = c.args in
     moves-as a.task.now a.index a.self a.below a.facts a.w _ c.in-End.is _
     (ended-finishes a.task.now a.index (counted_head a.self) a.below c.next_case-in-End.result c.if-self-gt1.false c.if-next-index.false c.next_case-in-End.ensures)

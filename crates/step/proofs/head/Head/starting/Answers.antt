@@ -7,4 +7,4 @@ use Rattle.step.proofs.head.Head.starting.Goals as goal
 
 pub returns : goal.returns
 unfolding starting_head
-returns c = ap (λ (x : Case). starting_head x.start) c.case_at-case.ensures
+returns c = ap (λ (x : Case). starting_head x.start) c.case_at.ensures
