@@ -2,7 +2,7 @@
 use Rattle.std.specs.Prelude.{◌≡◌, ℕ, Result, MatchResult}
 use Rattle.checker.specs.declared.kind.PlanKind.{PlanKind}
 use Rattle.checker.specs.declared.kind.PlanKind.TheVariants.{Closing, Write, Repeat}
-use Rattle.checker.specs.declared.kind.UnknownKind.{UnknownKind}
+use Rattle.records.specs.declared.record.UnknownKind.{UnknownKind}
 
 -- a kind's number
 abbrev pub kind_number : PlanKind → ℕ

@@ -1,4 +1,4 @@
--- How the checker's and the writer's own answers stand to the definitions. Only contracts of private functions cite it.
+-- How the answers of the checker's own functions stand to the definitions. Only contracts of private functions cite it.
 use Rattle.std.specs.Prelude.{ℕ, ◌+◌, ◌≤◌, ◌<◌, ◌≡◌, Bool, true, cond, ◌||◌, List, eqb, Option, Some, None, Result, Ok, Err}
 use Rattle.records.specs.Loop.{Turn, stop, ask}
 use Rattle.task.specs.Program.{line_offset}

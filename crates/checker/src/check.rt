@@ -1,6 +1,6 @@
 // The checker: a plan's records one after the other, each asked questions 11 to 24, and the program that its steps write.
 // Kind 16 writes a line and runs it, 17 repeats it; 5 closes the file.
-ghost use Rattle.std.specs.Prelude.{◌≡◌, true, ℕ, ◌+◌, ◌≤◌, ◌<◌, List, length, None, Some, Ok, IfOk, OnOk, MatchResult};
+ghost use Rattle.std.specs.Prelude.{◌≡◌, ◌≢◌, true, ℕ, ◌+◌, ◌≤◌, ◌<◌, List, length, None, Some, Ok, IfOk, OnOk, MatchResult};
 ghost use Rattle.records.specs.Loop.{stop};
 ghost use Rattle.task.specs.Instruction.{encode};
 ghost use Rattle.task.specs.Reading.{read_task, reading};
@@ -23,6 +23,7 @@ use records::record::Record;
 use step::head::Head;
 use step::held::HeldTask;
 use step::perform::ask;
+use step::position::Frame;
 use task::bounds::line_count;
 use task::index::Index;
 use task::instruction::{Line, Proc, Triple, decodes_for, put_triple, spelled, triple_at};
@@ -34,7 +35,7 @@ use task::refusal::Refusal;
 // What stands at an offset of the plan where questions 11 to 17 say yes: the closing record, with the offset after it; or a step of the top
 // frame's line, with its instruction's three bytes and the next record's offset.
 #[derive(Clone, Copy, Debug, PartialEq, Eq)]
-pub enum Read {
+pub(crate) enum Read {
     Closing { next: usize },
     Ready { step: Step, w: Triple, next: usize },
 }
@@ -103,7 +104,9 @@ fn read_step(
     kind: PlanKind,
     found: Record,
 ) -> Result<Read, Question>
-    requires { (head.steps < task.index.bounds.steps) × (found.body + 5 ≤ length plan.now) }
+    requires step { kind_number kind ≢ 5 }
+    requires left { head.steps < task.index.bounds.steps }
+    requires there { found.body + 5 ≤ length plan.now }
     ensures turn { (program : List ℕ) (at : ℕ) (callers : List Frame) (s : Position) →
         Stands head callers s
         → read_turn task.entry.bytes.now task.entry.index task.entry.offsets.now plan.now (state at s program) result
@@ -133,7 +136,7 @@ fn read_step(
     if task.index.cases <= head.case {
         return Err(Question::StepAfterFinish);
     }
-    if !((procedure == head.procedure) & (line == head.line)) {
+    if (Frame { procedure, line }) != head.top() {
         return Err(Question::StepElsewhere);
     }
     Ok(Read::Ready {
@@ -230,7 +233,7 @@ pub(crate) fn put(buffer: &mut [u8], at: usize, others: &[u8])
     buffer[at..at + others.len()].copy_from_slice(others);
 }
 
-// Checks a plan against a task that passes, with its preset lines in `program`: question 10, and then what the plan asks.
+// Checks a plan against a task that passes, with its preset lines in `program`: question 10, and then those of the plan.
 fn check_passed(
     task: HeldTask,
     mut program: [u8; 768],
@@ -255,10 +258,5 @@ pub fn check_plan(task: &[u8], plan: &[u8], buffer: &mut [u8]) -> Result<usize, 
     ensures { record { verdict = verdict result; buffer = buffer.new } ≡ check task.now plan.now buffer.old }
 {
     let layout = read_task(task)?;
-    let held = HeldTask {
-        bytes: task,
-        index: layout.index,
-        offsets: &layout.offsets,
-    };
-    check_passed(held, layout.presets, plan, buffer)
+    check_passed(HeldTask::new(task, &layout), layout.presets, plan, buffer)
 }

@@ -1,17 +1,15 @@
 // The kinds of a plan's records, by their numbers.
 ghost use Rattle.checker.specs.Kind.{Decodes};
 
-// A step that writes its line, one that repeats it, and the record that closes the file.
+use records::record::UnknownKind;
+
+// The record that closes the file, a step that writes its line, and one that repeats it.
 #[derive(Clone, Copy, Debug, PartialEq, Eq)]
 pub(crate) enum PlanKind {
     Closing = 5,
     Write = 16,
     Repeat = 17,
 }
-
-// A number that no kind has.
-#[derive(Clone, Copy, Debug, PartialEq, Eq)]
-pub(crate) struct UnknownKind(pub u16);
 
 impl TryFrom<u16> for PlanKind {
     type Error = UnknownKind;

@@ -3,24 +3,26 @@ ghost use Rattle.std.specs.Prelude.{◌≡◌, [], ◌∷◌, ◌++◌, ◌≤�
 ghost use Rattle.records.specs.Record.{record_bytes, closing};
 ghost use Rattle.task.specs.Verdict.{verdict};
 ghost use Rattle.checker.specs.Answer.{accepted};
-ghost use Rattle.checker.specs.Kind.{kind_number};
+ghost use Rattle.checker.specs.Plan.{kind_of};
 ghost use Rattle.checker.specs.Trace.{SpelledAt, lines_with, record_on, Spelled, records_after};
 ghost use Rattle.checker.specs.Write.{on_finish};
 
 use crate::check::put;
 use crate::kind::PlanKind;
+use crate::plan::{Step, kind_of};
 use step::position::Frame;
 use task::bounds::Bounds;
-use task::instruction::{Triple, put_triple, triple_at};
+use task::instruction::{Triple, put_triple, spelled, triple_at};
 use task::program::line_offset;
 use task::questions::Question;
 use task::refusal::Refusal;
 
 // The record of a step at a frame, by the three bytes of its instruction.
 #[tactic(auto, unfolding(records::specs::Record::record_bytes, records::specs::Numbers::number_bytes))]
-fn step_record(kind: PlanKind, frame: Frame, w: Triple) -> [u8; 9]
-    ensures { result ≡ record_bytes (kind_number kind) (frame.procedure.0 ∷ frame.line.0 ∷ w.op ∷ w.p ∷ w.q ∷ []) }
+fn step_record(step: Step, frame: Frame, w: Triple) -> [u8; 9]
+    ensures { result ≡ record_bytes (kind_of step) (frame.procedure.0 ∷ frame.line.0 ∷ w.op ∷ w.p ∷ w.q ∷ []) }
 {
+    let kind = kind_of(step);
     let Frame { procedure, line } = frame;
     [5, 0, kind as u8, 0, procedure.0, line.0, w.op, w.p, w.q]
 }
@@ -33,15 +35,16 @@ fn next_record(bounds: Bounds, program: &[u8], lines: &mut [u8; 768], frame: Fra
 {
     let offset = line_offset(bounds, frame.procedure, frame.line);
     let w = triple_at(program, offset);
+    let instruction = spelled(w);
     if lines[offset] != 0 {
-        return step_record(PlanKind::Repeat, frame, w);
+        return step_record(Step::Repeat(instruction), frame, w);
     }
     put_triple(lines, offset, w);
-    step_record(PlanKind::Write, frame, w)
+    step_record(Step::Write(instruction), frame, w)
 }
 
-// What follows a run that ended all cases, given its trace: question 29, and the plan. The records of its steps and the closing one fill the buffer's
-// first bytes. `lines` has the lines preset or run so far.
+// What follows a run that ended all cases, given its trace and the preset lines: question 29, and the plan. The records of its steps and the closing
+// one fill the buffer's first bytes.
 pub(crate) fn write_records(
     bounds: Bounds,
     program: &[u8],
@@ -63,8 +66,8 @@ pub(crate) fn write_records(
         return Err(Question::PlanNoRoom.at(size));
     }
     let mut lines = presets;
-    for k in 0..count {
-        let record = next_record(bounds, program, &mut lines, trace[k]);
+    for (k, &frame) in trace.iter().enumerate() {
+        let record = next_record(bounds, program, &mut lines, frame);
         put(buffer, 9 * k, &record);
     }
     put(buffer, 9 * count, &[0, 0, PlanKind::Closing as u8, 0]);

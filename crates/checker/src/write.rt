@@ -44,10 +44,7 @@ fn run(
         }
         let w = line_instruction(task.index, program, head.procedure, head.line);
         let facts = ask(task, head, w).map_err(|question| question.at(steps))?;
-        trace[steps] = Frame {
-            procedure: head.procedure,
-            line: head.line,
-        };
+        trace[steps] = head.top();
         let depth = head.depth as usize;
         callers[depth] = head.caller();
         head = head.moved(task.bytes, task.index, callers[depth - 1], facts, w);
@@ -68,10 +65,6 @@ pub fn write_plan(task: &[u8], program: &[u8], buffer: &mut [u8]) -> Result<usiz
 {
     let layout = read_task(task)?;
     check_program(layout.index, &layout.presets, program)?;
-    let held = HeldTask {
-        bytes: task,
-        index: layout.index,
-        offsets: &layout.offsets,
-    };
+    let held = HeldTask::new(task, &layout);
     run(held, layout.presets, program, buffer)
 }

@@ -10,28 +10,13 @@ use checker::write::write_plan;
 use records::numbers::two_at;
 use std::io::{self, Read};
 use task::refusal::Refusal;
+use test_requests::{answer_all, read_body, write_answer, write_bytes};
 
 // The kind of a request to the writer.
 const WRITER: u16 = 2;
 
 // The longest buffer that is listed.
 const LISTED: usize = 1024;
-
-// A yes has the number 0 and its value; a no has its question's number and its place.
-fn write_answer(rt: &impl Print, answer: Result<usize, Refusal>) -> io::Result<()> {
-    match answer {
-        Ok(value) => print!(rt; "0 {value}"),
-        Err(refusal) => print!(rt; "{refusal}"),
-    }
-}
-
-fn write_bytes(rt: &impl Print, bytes: &[u8]) -> io::Result<()> {
-    print!(rt; " [")?;
-    for byte in bytes {
-        print!(rt; "{byte:02x}")?;
-    }
-    println!(rt; "]")
-}
 
 // The sum of the bytes, and the sum of the sums up to each of them.
 fn write_sums(rt: &impl Print, bytes: &[u8]) -> io::Result<()> {
@@ -61,18 +46,18 @@ fn ask(kind: u16, task: &[u8], file: &[u8], buffer: &mut [u8]) -> Result<usize, 
     }
 }
 
-// A task of the given length and then a plan or a program.
+// The answer on a task of the given length and a plan or program behind it, and the buffer after it.
 fn answer_files(
     rt: &impl Print,
     kind: u16,
-    size: usize,
+    size: u16,
     files: &[u8],
     buffer: &mut [u8],
 ) -> io::Result<()> {
-    if files.len() < size {
+    let Some((task, file)) = files.split_at_checked(size as usize) else {
         return Ok(());
-    }
-    write_answer(rt, ask(kind, &files[..size], &files[size..], buffer))?;
+    };
+    write_answer(rt, ask(kind, task, file, buffer))?;
     write_buffer(rt, buffer)
 }
 
@@ -81,64 +66,35 @@ fn answer_request(
     rt: &impl Print,
     input: &mut impl Read,
     kind: u16,
-    size: usize,
-    space: &mut [u8],
-    lent: &mut [u8],
+    size: u16,
+    space: &mut [u8; 65536],
+    lent: &mut [u8; 65536],
 ) -> io::Result<bool> {
     let mut head = [0u8; 4];
     if input.read_exact(&mut head).is_err() {
         return Ok(false);
     }
-    let task = two_at(&head, 0) as usize;
-    let buffer = two_at(&head, 2) as usize;
-    if size < 4 + buffer {
+    let buffer = two_at(&head, 2);
+    let Some(files) = size
+        .checked_sub(4)
+        .and_then(|rest| rest.checked_sub(buffer))
+    else {
         return Ok(false);
-    }
-    let files = size - (4 + buffer);
-    if space.len() < files || lent.len() < buffer {
-        return Ok(false);
-    }
-    let files = &mut space[..files];
-    let buffer = &mut lent[..buffer];
-    let _ = input.read_exact(buffer);
-    let _ = input.read_exact(files);
-    answer_files(rt, kind, task, files, buffer)?;
-    Ok(true)
-}
-
-// Reads one record and answers it; false at the end of the input.
-fn answer_one(
-    rt: &impl Print,
-    input: &mut impl Read,
-    space: &mut [u8],
-    lent: &mut [u8],
-) -> io::Result<bool> {
-    let mut head = [0u8; 4];
-    if input.read_exact(&mut head).is_err() {
-        return Ok(false);
-    }
-    let size = two_at(&head, 0) as usize;
-    let kind = two_at(&head, 2);
-    if kind != 0 {
-        return answer_request(rt, input, kind, size, space, lent);
-    }
-    if space.len() < size {
-        return Ok(false);
-    }
-    let text = &mut space[..size];
-    let _ = input.read_exact(text);
-    rt.write_all(text)?;
+    };
+    let buffer = read_body(input, lent, buffer);
+    let files = read_body(input, space, files);
+    answer_files(rt, kind, two_at(&head, 0), files, buffer)?;
     Ok(true)
 }
 
 fn main(rt: HostRuntime) -> io::Result<()> {
-    let mut input = rt.reader();
     let mut space = [0u8; 65536];
     let mut lent = [0u8; 65536];
-    for _ in 0..4096 {
-        if !answer_one(&rt, &mut input, &mut space, &mut lent)? {
-            return Ok(());
+    answer_all(&mut rt.reader(), |input, kind, size| {
+        if kind != 0 {
+            return answer_request(&rt, input, kind, size, &mut space, &mut lent);
         }
-    }
-    Ok(())
+        rt.write_all(read_body(input, &mut space, size))?;
+        Ok(true)
+    })
 }

@@ -1,7 +1,7 @@
 // A late case: the record of one more case is put into the task in a caller's buffer, before the closing one, while a run of the task is open. The run is
 // only read, and goes on with the longer task.
 ghost use Rattle.std.specs.Prelude.{◌≡◌, ℕ};
-ghost use Rattle.task.specs.Verdict.{Accepted, passed, verdict};
+ghost use Rattle.task.specs.Verdict.{Accepted, unit_verdict, verdict};
 ghost use Rattle.late_case.specs.Late.{after_task, late_verdict, add_verdict, added_buffer};
 
 use crate::put::put_case;
@@ -16,7 +16,7 @@ use task::refusal::Refusal;
 // Questions 31 to 34, and 6 of the new sets, of a task that passed; `spare` bytes stand behind it.
 #[tactic(auto, unfolding(crate::specs::Late::late_verdict, crate::specs::Late::asked, crate::specs::Late::after_task))]
 fn check_case(index: Index, run: Position, spare: usize, case: Case) -> Result<(), Refusal>
-    ensures { (longer : ℕ) → after_task (passed result) (Accepted longer) ≡ late_verdict index run spare case longer }
+    ensures { (longer : ℕ) → after_task (unit_verdict result) (Accepted longer) ≡ late_verdict index run spare case longer }
 {
     if !possible(index, run) {
         return Err(Question::RunImpossible.at(0));
@@ -30,7 +30,7 @@ fn check_case(index: Index, run: Position, spare: usize, case: Case) -> Result<(
     if spare < 28 {
         return Err(Question::CaseNoRoom.at(0));
     }
-    if !case_consistent(index.bounds.facts, case.start, case.goal) {
+    if !case_consistent(index.bounds.facts, case) {
         return Err(Question::TaskFacts.at(0));
     }
     Ok(())

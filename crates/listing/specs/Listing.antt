@@ -1,7 +1,7 @@
 -- What is printed of a plan: `refused`, the question's number and the place; or `accepted` and the number of steps, and then the program:
 -- every procedure with its number, and every line 0 to n of it with its number, its instruction and the operands. Each stands on a line
 -- of its own, and every number is in decimal.
-use Rattle.std.specs.Prelude.{ℕ, zero, suc, ◌+◌, List, [], ◌++◌, length, take, drop, Option, Some, None}
+use Rattle.std.specs.Prelude.{ℕ, zero, suc, ◌+◌, List, [], ◌++◌, length, take, drop, Option, Some, None, Result, Ok, Err}
 use Rattle.task.specs.Program.{instruction_on}
 use Rattle.task.specs.declared.index.Index.{Index}
 use Rattle.task.specs.declared.instruction.Instruction.{Instruction}
@@ -41,6 +41,11 @@ module _ (i : Index) (program : List ℕ) where
   -- the program: every procedure
   unfoldable pub listing_text : List ℕ
   listing_text = in_order procedure_text i.bounds.procedures
+
+-- an answer whose refusal is its two numbers
+abbrev pub numbered : Result ℕ (ℕ × ℕ) → Verdict
+numbered (Ok steps) = Accepted steps
+numbered (Err (question, place)) = Refused question place
 
 -- a verdict and, of an accepted plan, its program
 unfoldable pub report_text : Verdict → Index → List ℕ → List ℕ

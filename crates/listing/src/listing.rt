@@ -2,8 +2,7 @@
 // program, procedure by procedure and line by line.
 ghost use Rattle.std.specs.Prelude.{◌≡◌, min, length};
 ghost use Rattle.task.specs.Program.{line_bytes, instruction_on};
-ghost use Rattle.task.specs.Verdict.{verdict};
-ghost use Rattle.listing.specs.Listing.{instruction_text, decoded_text, line_text, procedure_text, listing_text, report_text, filled};
+ghost use Rattle.listing.specs.Listing.{instruction_text, decoded_text, line_text, procedure_text, listing_text, numbered, report_text, filled};
 ghost use Rattle.listing.specs.Page.{HasPut};
 
 use crate::page::Page;
@@ -12,7 +11,6 @@ use task::bounds::Bounds;
 use task::index::Index;
 use task::instruction::{Instruction, Line, Proc, Triple, decode};
 use task::program::line_offset;
-use task::refusal::Refusal;
 
 // An instruction's name and its operands.
 #[tactic(auto, using(crate::proofs::Laws::Page::puts_append), unfolding(crate::specs::Listing::instruction_text))]
@@ -55,7 +53,7 @@ fn line_bytes(b: Bounds, program: &[u8], procedure: Proc, line: Line) -> Triple
 }
 
 // A program, of any length, for a task with this index.
-#[derive(Clone, Copy)]
+#[derive(Clone, Copy, Debug, PartialEq, Eq)]
 struct Program<'a> {
     index: Index,
     bytes: &'a [u8],
@@ -107,15 +105,15 @@ impl Program<'_> {
     }
 }
 
-// Any answer on a plan.
+// Any answer on a plan: the steps, or a question's number and the place.
 #[tactic(auto, using(crate::proofs::Laws::Page::puts_append), unfolding(crate::specs::Listing::report_text))]
-fn put_report(page: &mut Page<'_>, answer: Result<usize, Refusal>, program: &Program<'_>)
+fn put_report(page: &mut Page<'_>, answer: Result<usize, (u8, usize)>, program: &Program<'_>)
     ensures { HasPut page.old
-        (report_text (verdict answer) program.now.index program.now.bytes.now) page.new }
+        (report_text (numbered answer) program.now.index program.now.bytes.now) page.new }
 {
     match answer {
-        Err(Refusal { question, place }) => {
-            page.put_labelled(b"refused ", question.number() as usize);
+        Err((question, place)) => {
+            page.put_labelled(b"refused ", question as usize);
             page.put_labelled(b" ", place);
             page.put(b'\n');
         }
@@ -127,16 +125,16 @@ fn put_report(page: &mut Page<'_>, answer: Result<usize, Refusal>, program: &Pro
     }
 }
 
-// Writes the report on a plan at the start of a text, and answers how many bytes it wrote: all, or those that fit.
+// Writes the report on a plan at the start of a text: on one that is accepted with its steps, or refused with any number and place. Answers how many bytes it wrote: all, or those that fit.
 #[tactic(auto, using(crate::proofs::Laws::Page::put_all))]
 pub fn report(
-    answer: Result<usize, Refusal>,
+    answer: Result<usize, (u8, usize)>,
     index: Index,
     program: &[u8],
     text: &mut [u8],
 ) -> usize
-    ensures { (result ≡ min (length (report_text (verdict answer) index program.now)) (length text.old))
-        × (text.new ≡ filled (report_text (verdict answer) index program.now) text.old) }
+    ensures { (result ≡ min (length (report_text (numbered answer) index program.now)) (length text.old))
+        × (text.new ≡ filled (report_text (numbered answer) index program.now) text.old) }
 {
     let program = Program {
         index,

@@ -49,7 +49,8 @@ pub fn print_check(task: &[u8], plan: &[u8], text: &mut [u8]) -> usize
 {
     let mut program = [0u8; 768];
     let answer = check_bytes(task, plan, &mut program);
-    report(answer, index_of(task), &program, text)
+    let numbers = answer.map_err(|no| (no.question.number(), no.place));
+    report(numbers, index_of(task), &program, text)
 }
 
 // Reads until the space is full, the file ends or a read fails: what was read. Only the file knows how many reads that takes, so this is no `for`; and

@@ -6,7 +6,7 @@ ghost use Rattle.records.specs.Record.{record_at};
 use crate::record::{Record, record_at};
 
 // A plan, and an offset in it.
-#[derive(Clone, Copy)]
+#[derive(Clone, Copy, Debug, PartialEq, Eq)]
 pub(crate) struct Reader<'a> {
     plan: &'a [u8],
     at: usize,

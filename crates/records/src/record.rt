@@ -13,6 +13,10 @@ pub struct Record {
     pub next: usize,
 }
 
+// A number that no kind of a file's records has.
+#[derive(Clone, Copy, Debug, PartialEq, Eq)]
+pub struct UnknownKind(pub u16);
+
 // The record at an offset, if its head and its body are all there.
 pub fn record_at(bytes: &[u8], at: usize) -> Option<Record>
     ensures { result ≡ record_at bytes.now at }

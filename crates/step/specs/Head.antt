@@ -47,16 +47,14 @@ caller_of h = record { procedure = h.procedure; line = record { 0 = h.line.0 + 1
 unfoldable pub left_by : Head → ℕ → Frame
 left_by h depth = cond (ltb h.depth depth) (caller_of h) origin
 
+-- the position of a head over its frames: the top one is the head's, whatever stands there
+unfoldable pub over : Head → List Frame → Position
+over h frames =
+    record { facts = h.facts; steps = h.steps; case = h.case; depth = h.depth; frames = set frames (h.depth - 1) (top_of h) }
+
 -- a position after its head has moved: the frame that is left behind, and then the new top one
 unfoldable pub stored : Head → Head → Position → Position
-stored before h s =
-    record {
-      facts = h.facts;
-      steps = h.steps;
-      case = h.case;
-      depth = h.depth;
-      frames = set (set s.frames (before.depth - 1) (left_by before h.depth)) (h.depth - 1) (top_of h);
-    }
+stored before h s = over h (set s.frames (before.depth - 1) (left_by before h.depth))
 
 -- the moves; the caller's grown line is in the frame kept beside the head, and a pop is given the frame below
 unfoldable pub jumped_head : Head → Line → Head

@@ -3,7 +3,7 @@
 // a number of steps in one call keeps it over the position's own frames.
 ghost use Rattle.std.specs.Prelude.{◌≡◌, ◌+◌, ◌*◌, ◌≤◌, ◌<◌, length};
 ghost use Rattle.task.specs.Index.{case_at};
-ghost use Rattle.step.specs.Head.{head_of, stored, left_by, starting_head, caller_of, jumped_head, advanced_head, pushed_head, popped_head, case_head, counted_head, moved_head, Fits};
+ghost use Rattle.step.specs.Head.{head_of, over, stored, left_by, starting_head, top_of, caller_of, jumped_head, advanced_head, pushed_head, popped_head, case_head, counted_head, moved_head, Fits};
 
 use crate::facts::has;
 use crate::position::{Frame, Position, frame_at, number};
@@ -61,10 +61,15 @@ impl Head {
     {
         let mut frames = position.frames;
         frames[number(before.depth)] = before.left_behind(self.depth);
-        frames[number(self.depth)] = Frame {
-            procedure: self.procedure,
-            line: self.line,
-        };
+        self.over(frames)
+    }
+
+    // The position of this head over its frames: the top one is the head's, whatever stands in its slot.
+    pub fn over(self, mut frames: [Frame; 16]) -> Position
+        requires { self.depth ≤ 16 }
+        ensures { result ≡ over self frames }
+    {
+        frames[number(self.depth)] = self.top();
         Position {
             facts: self.facts,
             steps: self.steps,
@@ -85,6 +90,17 @@ impl Head {
             return self.caller();
         }
         Frame::default()
+    }
+
+    // The top frame.
+    #[tactic(auto, unfolding(crate::specs::Head::top_of))]
+    pub fn top(self) -> Frame
+        ensures { result ≡ top_of self }
+    {
+        Frame {
+            procedure: self.procedure,
+            line: self.line,
+        }
     }
 
     // The frame to come back to after a call.

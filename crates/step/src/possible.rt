@@ -1,29 +1,33 @@
 // Question 31: whether a position is possible.
-ghost use Rattle.std.specs.Prelude.{◌≡◌};
+ghost use Rattle.std.specs.Prelude.{◌≡◌, cond, ltb};
 ghost use Rattle.step.specs.Facts.{every};
-ghost use Rattle.step.specs.Possible.{frame_fits, possible};
+ghost use Rattle.step.specs.Possible.{in_use, unused, frame_fits, possible};
 
 use crate::position::{Frame, Position};
 use task::bounds::Bounds;
 use task::facts::within;
 use task::index::Index;
 
-// Whether every frame fits: in use, a procedure below b and a line 0 to n; else (0, 0).
+// Whether frame number k fits, given the depth: in use, a procedure below b and a line 0 to n; else (0, 0).
+#[tactic(auto, unfolding(crate::specs::Possible::in_use, crate::specs::Possible::unused, crate::specs::Position::origin))]
+fn frame_fits(bounds: Bounds, depth: u8, k: usize, frame: Frame) -> bool
+    ensures { result ≡ cond (ltb k depth) (in_use bounds frame) (unused frame) }
+{
+    if k < depth as usize {
+        return (frame.procedure.0 < bounds.procedures) & (frame.line.0 <= bounds.last);
+    }
+    frame == Frame::default()
+}
+
+// Whether every frame fits.
 fn frames_fit(bounds: Bounds, position: Position) -> bool
     ensures { result ≡ every 16 (frame_fits bounds position) }
 {
-    for k in 0..16 {
-        let frame = position.frames[k];
-        let fits = if k < position.depth as usize {
-            (frame.procedure.0 < bounds.procedures) & (frame.line.0 <= bounds.last)
-        } else {
-            frame == Frame::default()
-        };
-        if !fits {
-            return false;
-        }
-    }
-    true
+    position
+        .frames
+        .iter()
+        .enumerate()
+        .all(|(k, frame)| frame_fits(bounds, position.depth, k, *frame))
 }
 
 // Question 31. No frame exactly when all cases are finished, else 1 to m.

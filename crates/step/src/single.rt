@@ -34,10 +34,8 @@ fn step_once(
     if task.index.bounds.steps <= position.steps {
         return Err(Question::StepBound.at(place));
     }
-    match run_line(task, program, position) {
-        Ok(next) => Ok(Some(next)),
-        Err(question) => Err(question.at(place)),
-    }
+    let next = run_line(task, program, position).map_err(|question| question.at(place))?;
+    Ok(Some(next))
 }
 
 // Advances a run by one instruction: the position after it, none for a finished run, or the first question that says no.
@@ -50,12 +48,7 @@ pub fn single_step(
 {
     let layout = read_task(task)?;
     check_program(layout.index, &layout.presets, program)?;
-    let held = HeldTask {
-        bytes: task,
-        index: layout.index,
-        offsets: &layout.offsets,
-    };
-    step_once(held, program, position)
+    step_once(HeldTask::new(task, &layout), program, position)
 }
 
 // Advances the caller's own run record by one instruction: how many steps that made, 1, or 0 for a finished run. The record then has the next position;

@@ -16,38 +16,31 @@ ghost use Rattle.std.specs.Prelude.{◌≤◌, length};
 use checker::write::write_plan;
 use late_case::late::add_case;
 use records::numbers::{eight_at, two_at};
-use std::array;
-use std::io::{self, Read};
+use std::{array, io};
+use step::head::Head;
 use step::position::{Frame, Position};
 use step::single::single_step;
 use steps::many::many_steps;
 use task::facts::Literals;
-use task::index::{Case, case_at};
+use task::index::Case;
 use task::instruction::{Line, Proc};
 use task::reading::read_task;
-use task::refusal::Refusal;
+use test_requests::{answer_all, read_body, there, write_answer, write_bytes};
+
+// The kind of a run beside the writer's plan.
+const RUN: u16 = 65535;
+
+// The kind of calls for a number of steps.
+const CALLS: u16 = 65534;
+
+// The kind of a late case.
+const LATE: u16 = 65533;
 
 // The bytes of a step's record.
 const STEP: usize = 9;
 
 // The bytes of the longest plan that a run is made beside: 100 steps, and the closing record.
 const PLAN: usize = 100 * STEP + 4;
-
-// A yes has the number 0 and its value; a no has its question's number and its place.
-fn write_answer(rt: &impl Print, answer: Result<usize, Refusal>) -> io::Result<()> {
-    match answer {
-        Ok(value) => print!(rt; "0 {value}"),
-        Err(refusal) => print!(rt; "{refusal}"),
-    }
-}
-
-fn write_bytes(rt: &impl Print, bytes: &[u8]) -> io::Result<()> {
-    print!(rt; " [")?;
-    for byte in bytes {
-        print!(rt; "{byte:02x}")?;
-    }
-    println!(rt; "]")
-}
 
 // Behind a count of 2 bytes so many units of a size, and what follows them, if they are all there.
 fn counted(bytes: &[u8], size: usize) -> Option<(&[u8], &[u8])>
@@ -74,7 +67,7 @@ fn position_of(bytes: &[u8]) -> Position
 }
 
 // A run of a program: its task, and how far it is.
-#[derive(Clone, Copy)]
+#[derive(Clone, Copy, Debug, PartialEq, Eq)]
 struct Run<'a> {
     task: &'a [u8],
     program: &'a [u8],
@@ -196,17 +189,12 @@ fn answer_late(rt: &impl Print, bytes: &mut [u8]) -> io::Result<()> {
 }
 
 // The first case's start, given where its record is; in a task that passes it is there.
+#[tactic(auto, unfolding(step::specs::Head::starting_head))]
 fn first_position(task: &[u8], first: usize) -> Option<Position> {
-    if task.len() < 28 || task.len() - 28 < first {
+    if !there(task, first, 28) {
         return None;
     }
-    Some(Position {
-        facts: case_at(task, first, 0).start,
-        steps: 0,
-        case: 0,
-        depth: 1,
-        frames: [Frame::default(); 16],
-    })
+    Some(Head::starting(task, first).over([Frame::default(); 16]))
 }
 
 // The run of a program beside the plan that the writer gives, to the finish and one call beyond.
@@ -250,45 +238,21 @@ fn answer_run(rt: &impl Print, bytes: &[u8]) -> io::Result<()> {
     run.step(rt)
 }
 
-// Reads a record's body and answers it.
-fn answer_body(
-    rt: &impl Print,
-    input: &mut impl Read,
-    kind: u16,
-    body: &mut [u8],
-) -> io::Result<()> {
-    let _ = input.read_exact(body);
+// Answers a record.
+fn answer_body(rt: &impl Print, kind: u16, body: &mut [u8]) -> io::Result<()> {
     match kind {
         0 => rt.write_all(body),
-        65535 => answer_run(rt, body),
-        65534 => answer_calls(rt, body),
-        65533 => answer_late(rt, body),
+        RUN => answer_run(rt, body),
+        CALLS => answer_calls(rt, body),
+        LATE => answer_late(rt, body),
         _ => answer_steps(rt, kind, body),
     }
 }
 
-// Reads one record and answers it; false at the end of the input.
-fn answer_one(rt: &impl Print, input: &mut impl Read, space: &mut [u8]) -> io::Result<bool> {
-    let mut head = [0u8; 4];
-    if input.read_exact(&mut head).is_err() {
-        return Ok(false);
-    }
-    let size = two_at(&head, 0) as usize;
-    let kind = two_at(&head, 2);
-    if space.len() < size {
-        return Ok(false);
-    }
-    answer_body(rt, input, kind, &mut space[..size])?;
-    Ok(true)
-}
-
 fn main(rt: HostRuntime) -> io::Result<()> {
-    let mut input = rt.reader();
     let mut space = [0u8; 65536];
-    for _ in 0..4096 {
-        if !answer_one(&rt, &mut input, &mut space)? {
-            return Ok(());
-        }
-    }
-    Ok(())
+    answer_all(&mut rt.reader(), |input, kind, size| {
+        answer_body(&rt, kind, read_body(input, &mut space, size))?;
+        Ok(true)
+    })
 }

@@ -1,5 +1,5 @@
 -- What the functions below the entries require and give. Only their contracts cite it.
-use Rattle.std.specs.Prelude.{ℕ, ◌-◌, ◌≡◌, true, List, set, Result, Ok, Err}
+use Rattle.std.specs.Prelude.{ℕ, ◌≡◌, true, List, Result, Ok, Err}
 use Rattle.records.specs.Loop.{Turn, stop, go}
 use Rattle.task.specs.Program.{program_verdict}
 use Rattle.task.specs.Reading.{read_task}
@@ -7,7 +7,7 @@ use Rattle.task.specs.declared.index.Index.{Index}
 use Rattle.task.specs.declared.questions.Question.{Question}
 use Rattle.task.specs.declared.refusal.Refusal.{Refusal}
 use Rattle.task.specs.Verdict.{Accepted, Refused, number}
-use Rattle.step.specs.Head.{top_of}
+use Rattle.step.specs.Head.{over}
 use Rattle.step.specs.Possible.{possible}
 use Rattle.step.specs.declared.head.Head.{Head}
 use Rattle.step.specs.declared.position.Frame.{Frame}
@@ -15,12 +15,7 @@ use Rattle.step.specs.declared.position.Position.{Position}
 use Rattle.steps.specs.Many.{StepsTaken, taken_to, taken_as}
 use Rattle.steps.specs.declared.many.StepsTaken as code
 
--- the position of a head over its frames: the top one is the head's, whatever stands there
-unfoldable pub over : Head → List Frame → Position
-over h frames =
-    record { facts = h.facts; steps = h.steps; case = h.case; depth = h.depth; frames = set frames (h.depth - 1) (top_of h) }
-
--- the step that the answer to it stands for, given the frames after it
+-- the step that the answer to a head over its frames stands for, given the frames after it
 unfoldable pub advanced_as : List Frame → Result Head Question → Turn Position ℕ
 advanced_as frames (Err question) = stop (number question)
 advanced_as frames (Ok next) = go (over next frames)

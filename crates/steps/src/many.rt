@@ -1,10 +1,11 @@
 // A number of steps of a caller's run in one call: by value, and of the run record that the caller lends. The task is read once, and its questions, the
 // program's and the position's are asked once; what they showed holds after every step.
-ghost use Rattle.std.specs.Prelude.{◌≡◌, ◌≤◌, OnErr};
+ghost use Rattle.std.specs.Prelude.{◌≡◌, OnErr};
+ghost use Rattle.step.specs.Head.{over};
 ghost use Rattle.step.specs.Perform.{run_step};
 ghost use Rattle.step.specs.Ready.{Lined, Open};
 ghost use Rattle.steps.specs.Many.{steps_from, many_steps, answer_as, taken_as};
-ghost use Rattle.steps.specs.Running.{over, advanced_as, asked_as, Admitted};
+ghost use Rattle.steps.specs.Running.{advanced_as, asked_as, Admitted};
 
 use step::head::Head;
 use step::held::HeldTask;
@@ -51,33 +52,14 @@ fn advance(
     }
     let w = line_instruction(task.index, program, head.procedure, head.line);
     let facts = ask(task, head, w)?;
-    // The frame below the top one, at depth - 2; with one frame it is not looked at.
+    // The frame below the top one, at depth - 2; with one frame the value read is not used.
     let below = frames[(head.depth as usize + 14) % 16];
     let next = head.moved(task.bytes, task.index, below, facts, w);
     frames[head.depth as usize - 1] = head.left_behind(next.depth);
     Ok(next)
 }
 
-// The position of a head over its frames.
-#[tactic(auto, unfolding(crate::specs::Running::over, step::specs::Head::top_of))]
-fn position_over(head: Head, mut frames: [Frame; 16]) -> Position
-    requires { head.depth ≤ 16 }
-    ensures { result ≡ over head frames }
-{
-    frames[(head.depth as usize).saturating_sub(1)] = Frame {
-        procedure: head.procedure,
-        line: head.line,
-    };
-    Position {
-        facts: head.facts,
-        steps: head.steps,
-        case: head.case,
-        depth: head.depth,
-        frames,
-    }
-}
-
-// So many steps from a possible position, the task and the program having passed.
+// At most so many steps from a possible position, the task and the program having passed.
 fn run(task: HeldTask, program: &[u8], wanted: u16, first: Position) -> StepsTaken
     requires { Admitted task.bytes.now task.index task.offsets.now program.now first }
     ensures { taken_as result ≡ steps_from task.entry.bytes.now program.now wanted 0 first }
@@ -102,7 +84,7 @@ fn run(task: HeldTask, program: &[u8], wanted: u16, first: Position) -> StepsTak
             made: head.steps - first.steps,
             refusal,
         },
-        position: position_over(head, frames),
+        position: head.over(frames),
     }
 }
 
@@ -120,13 +102,8 @@ fn asked_steps(
     if !possible(layout.index, position) {
         return Err(Question::RunImpossible.at(0));
     }
-    let held = HeldTask {
-        bytes: task,
-        index: layout.index,
-        offsets: &layout.offsets,
-    };
     let wanted = count.min(u64::from(MOST)) as u16;
-    Ok(run(held, program, wanted, position))
+    Ok(run(HeldTask::new(task, &layout), program, wanted, position))
 }
 
 // Advances a run by a number of instructions, at most 4,096: the answer, and the position after the last one that was run.

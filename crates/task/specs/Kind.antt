@@ -2,7 +2,7 @@
 use Rattle.std.specs.Prelude.{◌≡◌, ℕ, Option, Some, None, Result, MatchResult}
 use Rattle.task.specs.declared.kind.Kind.{Kind}
 use Rattle.task.specs.declared.kind.Kind.TheVariants.{Header, Action, Preset, Case, Closing}
-use Rattle.task.specs.declared.kind.UnknownKind.{UnknownKind}
+use Rattle.records.specs.declared.record.UnknownKind.{UnknownKind}
 
 -- a kind's number
 abbrev pub kind_number : Kind → ℕ

@@ -60,6 +60,6 @@ verdict (Ok value) = Accepted value
 verdict (Err r) = Refused (number r.question) r.place
 
 -- and one without a value
-abbrev pub passed : Result Unit Refusal → Verdict
-passed (Ok value) = Accepted 0
-passed (Err r) = Refused (number r.question) r.place
+abbrev pub unit_verdict : Result Unit Refusal → Verdict
+unit_verdict (Ok value) = Accepted 0
+unit_verdict (Err r) = Refused (number r.question) r.place

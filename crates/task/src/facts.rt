@@ -2,6 +2,7 @@
 ghost use Rattle.std.specs.Prelude.{◌≡◌, ℕ, ◌+◌, ◌≤◌, length};
 ghost use Rattle.task.specs.Facts.{literals_at, within, Greatest, consistent, case_consistent, pairs_before_fault};
 
+use crate::index::Case;
 use crate::search::first_no;
 use records::numbers::eight_at;
 
@@ -29,9 +30,9 @@ pub(crate) fn most(facts: u8) -> u64
     ensures { Greatest facts result }
 {
     if 64 <= facts {
-        return 0xffff_ffff_ffff_ffff;
+        return u64::MAX;
     }
-    0x7fff_ffff_ffff_ffff >> (63 - facts)
+    (u64::MAX >> 1) >> (63 - facts)
 }
 
 // Whether a set uses bits below `facts` alone.
@@ -52,11 +53,11 @@ pub(crate) fn consistent_to(most: u64, literals: Literals) -> bool
 }
 
 // Question 6 on a case: its start, and its goal pair.
-pub fn case_consistent(facts: u8, start: u64, goal: Literals) -> bool
-    ensures { result ≡ case_consistent facts start goal }
+pub fn case_consistent(facts: u8, case: Case) -> bool
+    ensures { result ≡ case_consistent facts case.start case.goal }
 {
     let most = most(facts);
-    (start <= most) & consistent_to(most, goal)
+    (case.start <= most) & consistent_to(most, case.goal)
 }
 
 // The pass over an action's pairs, given the greatest set.
@@ -76,7 +77,7 @@ pub fn pairs_before_fault(facts: u8, body: &[u8]) -> usize
 {
     // With 64 facts or more no set is too great: in a loop of its own the compiler leaves that test out.
     if 64 <= facts {
-        return pairs_to(0xffff_ffff_ffff_ffff, body);
+        return pairs_to(u64::MAX, body);
     }
     pairs_to(most(facts), body)
 }

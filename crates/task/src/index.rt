@@ -1,6 +1,8 @@
 // Where things stand in the file of a task that passes: its bounds, the places of its actions and cases, and its preset program;
 // and the readers of its actions and cases.
 ghost use Rattle.std.specs.Prelude.{◌≡◌, ◌+◌, ◌*◌, ◌≤◌, length};
+ghost use Rattle.records.specs.Numbers.{u64_at};
+ghost use Rattle.task.specs.Facts.{literals_at};
 ghost use Rattle.task.specs.Index.{action_at, effect_at, case_at};
 
 use crate::bounds::Bounds;
@@ -17,7 +19,7 @@ pub struct Index {
 }
 
 // Where a task stands in its file: its index, the offset of each action's record, and the preset program, which fills the first bytes.
-#[derive(Clone, Copy)]
+#[derive(Clone, Copy, Debug, Default, PartialEq, Eq)]
 pub struct Layout {
     pub index: Index,
     pub offsets: [usize; 64],
@@ -71,14 +73,21 @@ pub fn effect_at(task: &[u8], at: usize, number: u16) -> Effect
     }
 }
 
+// The case whose 24 bytes start at an offset; they are all there.
+pub(crate) fn case_body_at(task: &[u8], at: usize) -> Case
+    requires { at + 24 ≤ length task.now }
+    ensures { (result.start ≡ u64_at task.now at) × (result.goal ≡ literals_at task.now (at + 8)) }
+{
+    Case {
+        start: eight_at(task, at),
+        goal: literals_at(task, at + 8),
+    }
+}
+
 // A case, given the offset of the first one; the cases go on to its end.
 pub fn case_at(task: &[u8], first: usize, number: u8) -> Case
     requires { first + (28 + 28 * number) ≤ length task.now }
     ensures { result ≡ case_at task.now first number }
 {
-    let from = 28 * (number as usize);
-    Case {
-        start: eight_at(task, first + (4 + from)),
-        goal: literals_at(task, first + (12 + from)),
-    }
+    case_body_at(task, first + (4 + 28 * (number as usize)))
 }

@@ -42,11 +42,9 @@ pub enum Instruction {
 pub(crate) fn decodes(b: Bounds, actions: u8, line: Line, w: Triple) -> bool
     ensures { result ≡ is_instruction (decode b actions line w) }
 {
-    let line = line.0;
+    let Line(line) = line;
     let last = b.last;
-    let op = w.op;
-    let p = w.p;
-    let q = w.q;
+    let Triple { op, p, q } = w;
     match op {
         0 => ((p == 0) & (q == 0)) & (line <= last),
         1 => (q == 0) & ((line < last) & (p < actions)),
@@ -70,8 +68,7 @@ pub fn spelled(w: Triple) -> Instruction
     requires { is_instruction (spelled w) ≡ true }
     ensures { spelled w ≡ Some result }
 {
-    let op = w.op;
-    match op {
+    match w.op {
         1 => Instruction::Act(w.p),
         2 => Instruction::Goto(Line(w.p), w.q),
         3 => Instruction::Call(Proc(w.p)),

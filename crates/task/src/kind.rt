@@ -1,6 +1,8 @@
 // The kinds of a task file's records, by their numbers.
 ghost use Rattle.task.specs.Kind.{Decodes};
 
+use records::record::UnknownKind;
+
 // The bounds, an action, a preset line, a case, and the record that closes the file.
 #[derive(Clone, Copy, Debug, PartialEq, Eq)]
 pub enum Kind {
@@ -10,10 +12,6 @@ pub enum Kind {
     Case = 4,
     Closing = 5,
 }
-
-// A number that no kind has.
-#[derive(Clone, Copy, Debug, PartialEq, Eq)]
-pub struct UnknownKind(pub u16);
 
 impl TryFrom<u16> for Kind {
     type Error = UnknownKind;

@@ -1,4 +1,4 @@
-// A task file to its verdict and what it says, an instruction from its bytes and back, and a program's own questions.
+// A task file to its verdict and what it says, an instruction from its bytes, and a program's own questions.
 #![tactic(auto)]
 
 pub mod bounds;

@@ -1,7 +1,7 @@
 // A program's own questions: its length, its lines and its presets.
 ghost use Rattle.std.specs.Prelude.{◌≡◌, ◌+◌, ◌*◌, ◌≤◌, true, length};
 ghost use Rattle.task.specs.First.{first_no};
-ghost use Rattle.task.specs.Verdict.{passed};
+ghost use Rattle.task.specs.Verdict.{unit_verdict};
 ghost use Rattle.task.specs.Program.{line_offset, instruction_on, is_instruction, line_allowed, preset_held, program_verdict};
 
 use crate::bounds::{Bounds, line_count};
@@ -77,7 +77,7 @@ fn held_presets(count: usize, presets: &[u8], program: &[u8]) -> usize
 
 // Questions 25 to 27, of a program for a task that passed with this index and these presets.
 pub fn check_program(index: Index, presets: &[u8], program: &[u8]) -> Result<(), Refusal>
-    ensures { passed result ≡ program_verdict index presets.now program.now }
+    ensures { unit_verdict result ≡ program_verdict index presets.now program.now }
 {
     let count = line_count(index.bounds) as usize;
     if program.len() != 3 * count {

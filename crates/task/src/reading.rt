@@ -7,14 +7,13 @@ ghost use Rattle.task.specs.Outcome.{progress, state, with_record, part_turned, 
 ghost use Rattle.task.specs.declared.kind.Kind.TheVariants.{Header};
 
 use crate::bounds::{bounds_at, in_range};
-use crate::facts::{case_consistent, literals_at, pairs_before_fault};
-use crate::index::{Index, Layout};
+use crate::facts::{case_consistent, pairs_before_fault};
+use crate::index::{Index, Layout, case_body_at};
 use crate::instruction::{Line, Proc, decodes_for, put_triple, triple_at};
 use crate::kind::Kind;
 use crate::program::line_offset;
 use crate::questions::Question;
 use crate::refusal::Refusal;
-use records::numbers::eight_at;
 use records::record::{Record, record_at};
 
 // How far the reading is: the next record's offset, the kind of the record before it, if there is one, and the index so far.
@@ -125,8 +124,7 @@ fn ask_case(task: &[u8], p: Progress, body: usize) -> Result<(), Question>
     if 32 <= p.index.cases {
         return Err(Question::TaskTooMany);
     }
-    let start = eight_at(task, body);
-    if case_consistent(p.index.bounds.facts, start, literals_at(task, body + 8)) {
+    if case_consistent(p.index.bounds.facts, case_body_at(task, body)) {
         return Ok(());
     }
     Err(Question::TaskFacts)
@@ -230,12 +228,8 @@ fn read_records(
 pub fn read_task(task: &[u8]) -> Result<Layout, Refusal>
     ensures { reading result ≡ read_task task.now }
 {
-    // The arrays are filled where the answer has them.
-    let mut layout = Layout {
-        index: Index::default(),
-        offsets: [0; 64],
-        presets: [0; 768],
-    };
+    // It is filled in place.
+    let mut layout = Layout::default();
     layout.index = read_records(task, &mut layout.offsets, &mut layout.presets)?;
     Ok(layout)
 }

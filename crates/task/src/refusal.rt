@@ -1,7 +1,9 @@
 // A no: the first question that is answered so, with its place.
-ghost use Rattle.std.specs.Prelude.{◌≡◌};
+ghost use Rattle.std.specs.Prelude.{◌≡◌, ◌++◌, Some, codes, decimal};
+ghost use Rattle.task.specs.Verdict.{number};
 
 use crate::questions::Question;
+use std::error::Error;
 use std::fmt;
 
 // A question that says no, and its place.
@@ -13,10 +15,14 @@ pub struct Refusal {
 
 // The question's number and its place.
 impl fmt::Display for Refusal {
+    ghost output = { λ r. Some (decimal (number r.question) ++ codes " " ++ decimal r.place) };
+
     fn fmt<W: fmt::Write>(&self, f: &mut fmt::Formatter<W>) -> fmt::Result {
         write!(f, "{} {}", self.question.number(), self.place)
     }
 }
+
+impl Error for Refusal {}
 
 impl Question {
     // The no of this question at a place.

@@ -7,34 +7,23 @@
 // with an empty layout.
 #![tactic(auto)]
 
-ghost use Rattle.std.specs.Prelude.{◌≡◌, true, ◌+◌, ◌≤◌, length};
-
-use records::numbers::two_at;
-use std::io::{self, Read};
+use std::io;
 use task::bounds::Bounds;
 use task::facts::{Literals, pairs_before_fault};
-use task::index::{Index, Layout, action_at, case_at, effect_at};
+use task::index::{Layout, action_at, case_at, effect_at};
 use task::program::check_program;
 use task::reading::read_task;
 use task::refusal::Refusal;
+use test_requests::{answer_all, read_body, there, write_answer};
 
-// A yes has the number 0 and the value 0; a no has its question's number and its place.
-fn write_answer(rt: &impl Print, answer: Result<(), Refusal>) -> io::Result<()> {
-    match answer {
-        Ok(()) => println!(rt; "0 0"),
-        Err(refusal) => println!(rt; "{refusal}"),
-    }
+// A line of its own for an answer; a yes has the value 0.
+fn write_verdict(rt: &impl Print, answer: Result<(), Refusal>) -> io::Result<()> {
+    write_answer(rt, answer.map(|()| 0))?;
+    println!(rt)
 }
 
 fn write_literals(rt: &impl Print, literals: Literals) -> io::Result<()> {
     print!(rt; " {} {}", literals.positive, literals.negative)
-}
-
-// Whether so many bytes are there from an offset on, as those of a task that passes are.
-fn there(bytes: &[u8], at: usize, size: usize) -> bool
-    ensures { result ≡ true → at + size ≤ length bytes.now }
-{
-    size <= bytes.len() && at <= bytes.len() - size
 }
 
 fn write_effect(rt: &impl Print, bytes: &[u8], at: usize, number: u16) -> io::Result<()> {
@@ -101,26 +90,18 @@ fn write_task(rt: &impl Print, bytes: &[u8], layout: &Layout) -> io::Result<()> 
 
 // Where a task stands; a task that does not pass has an empty layout.
 fn layout_of(task: &[u8]) -> Layout {
-    read_task(task).unwrap_or(Layout {
-        index: Index::default(),
-        offsets: [0; 64],
-        presets: [0; 768],
-    })
+    read_task(task).unwrap_or_default()
 }
 
 fn answer_program(rt: &impl Print, bytes: &[u8]) -> io::Result<()> {
-    if bytes.len() < 2 {
+    let Some((size, files)) = bytes.split_first_chunk::<2>() else {
         return Ok(());
-    }
-    let end = 2 + two_at(bytes, 0) as usize;
-    if bytes.len() < end {
+    };
+    let Some((program, task)) = files.split_at_checked(u16::from_le_bytes(*size) as usize) else {
         return Ok(());
-    }
-    let layout = layout_of(&bytes[end..]);
-    write_answer(
-        rt,
-        check_program(layout.index, &layout.presets, &bytes[2..end]),
-    )
+    };
+    let layout = layout_of(task);
+    write_verdict(rt, check_program(layout.index, &layout.presets, program))
 }
 
 fn answer_pairs(rt: &impl Print, bytes: &[u8]) -> io::Result<()> {
@@ -130,47 +111,23 @@ fn answer_pairs(rt: &impl Print, bytes: &[u8]) -> io::Result<()> {
     println!(rt; "{}", pairs_before_fault(*facts, body))
 }
 
-// Reads a record's body and answers it.
-fn answer_body(
-    rt: &impl Print,
-    input: &mut impl Read,
-    kind: u16,
-    body: &mut [u8],
-) -> io::Result<()> {
-    let _ = input.read_exact(body);
+// Answers a record.
+fn answer_body(rt: &impl Print, kind: u16, body: &[u8]) -> io::Result<()> {
     match kind {
         0 => rt.write_all(body),
-        1 => write_answer(rt, read_task(body).map(|_| ())),
+        1 => write_verdict(rt, read_task(body).map(|_| ())),
         2 => write_task(rt, body, &layout_of(body)),
         3 => answer_program(rt, body),
         _ => answer_pairs(rt, body),
     }
 }
 
-// Reads one record and answers it; false at the end of the input.
-fn answer_one(rt: &impl Print, input: &mut impl Read, space: &mut [u8]) -> io::Result<bool> {
-    let mut head = [0u8; 4];
-    if input.read_exact(&mut head).is_err() {
-        return Ok(false);
-    }
-    let size = two_at(&head, 0) as usize;
-    let kind = two_at(&head, 2);
-    if space.len() < size {
-        return Ok(false);
-    }
-    answer_body(rt, input, kind, &mut space[..size])?;
-    Ok(true)
-}
-
 fn main(rt: HostRuntime) -> io::Result<()> {
-    let mut input = rt.reader();
     let mut space = [0u8; 65536];
-    for _ in 0..4096 {
-        if !answer_one(&rt, &mut input, &mut space)? {
-            return Ok(());
-        }
-    }
-    Ok(())
+    answer_all(&mut rt.reader(), |input, kind, size| {
+        answer_body(&rt, kind, read_body(input, &mut space, size))?;
+        Ok(true)
+    })
 }
 
 #[cfg(test)]

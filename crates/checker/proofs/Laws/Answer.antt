@@ -15,7 +15,7 @@ use Rattle.task.specs.Program.{program_verdict}
 use Rattle.task.specs.Reading.{read_task, refused as refused_task, accepted as accepted_task, reading}
 use Rattle.task.specs.declared.bounds.Bounds.{Bounds}
 use Rattle.task.specs.declared.index.Layout.{Layout}
-use Rattle.task.specs.Verdict.{Refused, verdict, passed}
+use Rattle.task.specs.Verdict.{Refused, verdict, unit_verdict}
 use Rattle.task.specs.declared.refusal.Refusal.{Refusal}
 use Rattle.std.specs.Prelude.{Result, Ok, Err}
 use Rattle.std.proofs.lemmas.List.{length-take-le, take_all}
@@ -90,17 +90,17 @@ task-turned-down bytes program buffer r e = rw (← e) refl
 
 -- a task that passes
 module _ (bytes program buffer : List ℕ) (t : Layout) (e : reading (Ok t) ≡ read_task bytes) where
-  on-program : (v : Result Unit Refusal) → passed v ≡ program_verdict t.index t.presets program
-      → on_finish buffer (passing (passed v) (run bytes t program)) ≡ write bytes program buffer
+  on-program : (v : Result Unit Refusal) → unit_verdict v ≡ program_verdict t.index t.presets program
+      → on_finish buffer (passing (unit_verdict v) (run bytes t program)) ≡ write bytes program buffer
   unfolding write program_result passing reading accepted_task
   on-program v k = rw (k, ← e) refl
 
-  pub program-refused : (r : Refusal) → passed (Err r) ≡ program_verdict t.index t.presets program
+  pub program-refused : (r : Refusal) → unit_verdict (Err r) ≡ program_verdict t.index t.presets program
       → ◌≡◌ {A = Answer} (record { verdict = verdict (Err r); buffer = buffer }) (write bytes program buffer)
   unfolding passing on_finish
   program-refused r k = on-program (Err r) k
 
   -- the program passes: the answer is the run's
-  pub run-answers : passed (Ok tt) ≡ program_verdict t.index t.presets program → on_finish buffer (run bytes t program) ≡ write bytes program buffer
+  pub run-answers : unit_verdict (Ok tt) ≡ program_verdict t.index t.presets program → on_finish buffer (run bytes t program) ≡ write bytes program buffer
   unfolding passing
   run-answers k = on-program (Ok tt) k

@@ -139,11 +139,11 @@ module _ (step : Step) (w : Triple) (k : w ≡ encode (instruction_of step)) whe
 
 -- a step on the top frame's line that questions 14 to 17 let pass
 pub step-is-ready : (i : Index) (h : Head) → in_range i.bounds ≡ true → h.case < i.cases → h.steps < i.bounds.steps → (f : Frame)
-    → same_frame f (top_of h) ≡ true → (w : Triple) (m : Bool)
+    → same_frame f (top_of h) ≡ true → {w : Triple} {m : Bool}
     → m ≡ is_instruction (decode_for i.bounds i.actions f.procedure f.line w) → m ≡ true
-    → (x : Instruction) → spelled w ≡ Some x → (kind : ℕ) → StepReady i h (step_of kind x) w
+    → {x : Instruction} → spelled w ≡ Some x → (kind : ℕ) → StepReady i h (step_of kind x) w
 unfolding top_of
-step-is-ready i h ranges case left f same w m em y x e kind =
+step-is-ready i h ranges case left f same {w = w} {m = m} em y {x = x} e kind =
     let there = decoded-for i.bounds i.actions f.procedure f.line w x (for-is _ _ _ _ _ m em y x e) in
     let room = decoded-there i.bounds i.actions f.procedure f.line w (sym em ∙ y) ranges in
     let top = same-frame f (top_of h) same in
@@ -206,7 +206,7 @@ module _ (bytes : List ℕ) (i : Index) (offsets : List ℕ) (at : ℕ) (p : Pos
   abbrev f : Frame
   f = frame_at plan body
 
-  module _ (few : p.steps < i.bounds.steps) (w : Triple) (ew : w ≡ triple_at plan (body + 2)) (m : Bool)
+  module _ (few : p.steps < i.bounds.steps) {w : Triple} (ew : w ≡ triple_at plan (body + 2)) {m : Bool}
       (em : m ≡ is_instruction (decode_for i.bounds i.actions f.procedure f.line w)) where
     on-decoded : on_decoded bytes i offsets (state at p program) kind next f (decode_for i.bounds i.actions f.procedure f.line w)
         ≡ step_turn bytes i offsets (state at p program) plan kind body next
@@ -238,11 +238,11 @@ module _ (bytes : List ℕ) (i : Index) (offsets : List ℕ) (at : ℕ) (p : Pos
         unfolding on_step
         another-line h = some-step (λ x e. ask-no _ _ _ h ∙ ask-yes _ _ _ (lt-ltb p.case i.cases o) ∙ e)
 
-        pub step-ready : f ≡ top p → (x : Instruction) → spelled w ≡ Some x
+        pub step-ready : f ≡ top p → {x : Instruction} → spelled w ≡ Some x
             → line_turn bytes i offsets (state at p program) next (step_of kind x)
             ≡ step_turn bytes i offsets (state at p program) plan kind body next
         unfolding on_step line_turn
-        step-ready e x h =
+        step-ready e {x = x} h =
             rw e (ask-yes _ _ _ (frame_same (top p))) ∙ ask-yes _ _ _ (lt-ltb p.case i.cases o) ∙ on-step x h
 
 module _ (bytes : List ℕ) (i : Index) (offsets plan : List ℕ) (at : ℕ) (p : Position) (program : List ℕ) where

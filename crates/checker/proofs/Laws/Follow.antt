@@ -50,10 +50,10 @@ pub record Following (bytes : List ℕ) (i : Index) (offsets plan : List ℕ) (w
   pub above : h.case < i.cases → 0 < h.depth
 
 -- a step that is ready, by what was read
-pub ready-is : (i : Index) (h : Head) (r : Result Read Question) (step : Step) (w : Triple) (next : ℕ) → r ≡ Ok (Ready step w next)
+pub ready-is : {i : Index} {h : Head} {r : Result Read Question} {step : Step} {w : Triple} {next : ℕ} → r ≡ Ok (Ready step w next)
     → IfOk r (ReadyAt i h) → StepReady i h step w
 unfolding ReadyAt
-ready-is i h r step w next k ready = rw k at ready
+ready-is k ready = rw k at ready
 
 module _ (bytes : List ℕ) (i : Index) (offsets : List ℕ) (presets : List ℕ)
     (passed : Passed bytes (record { index = i; offsets = offsets; presets = presets })) (plan : List ℕ) where
@@ -85,7 +85,7 @@ module _ (bytes : List ℕ) (i : Index) (offsets : List ℕ) (presets : List ℕ
       (from-begin bytes i offsets plan presets) size)
 
 -- one record more: `r` is what was read at the offset
-module _ (bytes : List ℕ) (i : Index) (offsets plan : List ℕ) (whole : Outcome) (at : ℕ) (program : List ℕ) (h : Head) (callers : List Frame)
+module _ {bytes : List ℕ} {i : Index} {offsets plan : List ℕ} {whole : Outcome} {at : ℕ} {program : List ℕ} {h : Head} {callers : List Frame}
     (f : Following bytes i offsets plan whole at program h callers) (r : Result Read Question)
     (er : (program : List ℕ) (callers : List Frame) (s : Position) → Stands h callers s
     → read_turn bytes i offsets plan (state at s program) r ≡ turn_of bytes i offsets plan (state at s program)) where
@@ -114,7 +114,7 @@ module _ (bytes : List ℕ) (i : Index) (offsets plan : List ℕ) (whole : Outco
   follow-closes next k v e = stops _ (e program callers f.position f.stands ∙ rw k at read)
 
   -- a step that is ready: `a` is the answer to its questions, and `after` the program then
-  module _ (step : Step) (w : Triple) (next : ℕ) (k : r ≡ Ok (Ready step w next)) (a : Result ℕ Question) (after : List ℕ)
+  module _ {step : Step} {w : Triple} {next : ℕ} (k : r ≡ Ok (Ready step w next)) (a : Result ℕ Question) (after : List ℕ)
       (ea : (at next : ℕ) (callers : List Frame) (s : Position) → Stands h callers s
       → on_move at next after (performed_as bytes i s (instruction_of step) a) ≡ line_turn bytes i offsets (state at s program) next step) where
     taken : on_move at next after (performed_as bytes i f.position (instruction_of step) a) ≡ turn_of bytes i offsets plan here
@@ -125,7 +125,7 @@ module _ (bytes : List ℕ) (i : Index) (offsets plan : List ℕ) (whole : Outco
     unfolding on_move performed_as followed_by
     follow-refused refusal ka = rw ka.2 (stops _ (rw ka.1 at taken))
 
-    module _ (facts : ℕ) (ka : a ≡ Ok facts) where
+    module _ {facts : ℕ} (ka : a ≡ Ok facts) where
       abbrev then : Position
       then = counted (moved_by bytes i f.position facts (instruction_of step))
 
@@ -136,13 +136,13 @@ module _ (bytes : List ℕ) (i : Index) (offsets plan : List ℕ) (whole : Outco
       pub follow-falls : length plan - next < length plan - at
       follow-falls = falls bytes i offsets plan here _ (sym goes)
 
-      pub follow-on : IfOk r (ReadyAt i h) → OnOk a (Room i h.depth (instruction_of step)) → (g : Frame) → g ≡ caller_of h
-          → (below : Frame) → below ≡ get_or (set callers h.depth g) (h.depth - 1) origin
-          → (v : Instruction) → v ≡ instruction_of step → (n : Head)
+      pub follow-on : IfOk r (ReadyAt i h) → OnOk a (Room i h.depth (instruction_of step)) → {g : Frame} → g ≡ caller_of h
+          → {below : Frame} → below ≡ get_or (set callers h.depth g) (h.depth - 1) origin
+          → {v : Instruction} → v ≡ instruction_of step → {n : Head}
           → n ≡ counted_head (moved_head bytes i h below facts v) → Following bytes i offsets plan whole next after n (set callers h.depth g)
-      follow-on ready room g eg below b v ev n en =
+      follow-on ready room {g = g} eg {below = below} b ev {n = n} en =
           let bounded = (passed-held bytes _ f.passed).task in
-          let ask = (ready-is i h r step w next k ready).askable in
+          let ask = (ready-is k ready).askable in
           let case : f.position.case < i.cases = omega (arith, ask.case, f.stands.case) in
           let left : f.position.steps < i.bounds.steps = omega (arith, ask.left, f.stands.steps) in
           let stands : Stands n (set callers h.depth g) then =
@@ -154,9 +154,9 @@ module _ (bytes : List ℕ) (i : Index) (offsets plan : List ℕ) (whole : Outco
           (length-set callers h.depth g ∙ f.room)
 
 -- what a step requires of a head that is ready, so that no number leaves its type
-pub follow-fits : (bytes : List ℕ) (i : Index) (offsets plan : List ℕ) (whole : Outcome) (at : ℕ) (program : List ℕ) (h : Head) (callers : List Frame)
-    → Following bytes i offsets plan whole at program h callers → (step : Step) (w : Triple) → StepReady i h step w → Fits h (instruction_of step)
-follow-fits bytes i offsets plan whole at program h callers f step w ready =
+pub follow-fits : {bytes : List ℕ} {i : Index} {offsets plan : List ℕ} {whole : Outcome} {at : ℕ} {program : List ℕ} {h : Head} {callers : List Frame}
+    → Following bytes i offsets plan whole at program h callers → {step : Step} {w : Triple} → StepReady i h step w → Fits h (instruction_of step)
+follow-fits {i = i} {h = h} {callers = callers} f {step = step} ready =
     let ask = ready.askable in
-    head-fits i (passed-held bytes _ f.passed).task h callers f.position f.stands f.possible (omega (arith, ask.case, f.stands.case))
+    head-fits i (passed-held _ _ f.passed).task h callers f.position f.stands f.possible (omega (arith, ask.case, f.stands.case))
     (omega (arith, ask.left, f.stands.steps)) (instruction_of step) ask.allowed

@@ -2,10 +2,10 @@
 -- Assumes nothing.
 use Prim.Native.Nat.{ℕ, ◌+◌, ◌-◌}
 use mathlib.Core.Path.{◌≡◌, refl, sym, ap, ◌∙◌}
-use mathlib.Core.List.{List, [], ◌++◌, append-nil, append_assoc}
+use mathlib.Core.List.{List, [], ◌∷◌, ◌++◌, append-nil, append_assoc}
 use native.Mathlib.Omega.{arith}
 use Rattle.std.proofs.Math.Nat.{div-div-eq-div-mul}
-use Rattle.std.specs.Int.{w32, w64, to_le_bytes}
+use Rattle.std.specs.Int.{w64, to_le_bytes}
 use lib.ListN.{length, take, drop, length-drop}
 use lib.Seq.{drop-drop, drop-length}
 use borrow.Rule.Slice.PartMut.{put_mid}
@@ -26,8 +26,8 @@ end-put k l part =
     ap (λ (rest : List ℕ). take k l ++ (part ++ rest)) none ∙ ap (λ (end : List ℕ). take k l ++ end) (append-nil part)
 
 -- the parts of a case's record and of the closing one, put over a list's first bytes
-module _ (c : Case) (head start positive negative end l : List ℕ) (e₀ : head ≡ to_le_bytes w32 0x40018) (e₁ : start ≡ to_le_bytes w64 c.start)
-    (e₂ : positive ≡ to_le_bytes w64 c.goal.positive) (e₃ : negative ≡ to_le_bytes w64 c.goal.negative) (e₄ : end ≡ to_le_bytes w32 0x50000) where
+module _ (c : Case) (head start positive negative end l : List ℕ) (e₀ : head ≡ 24 ∷ 0 ∷ 4 ∷ 0 ∷ []) (e₁ : start ≡ to_le_bytes w64 c.start)
+    (e₂ : positive ≡ to_le_bytes w64 c.goal.positive) (e₃ : negative ≡ to_le_bytes w64 c.goal.negative) (e₄ : end ≡ 0 ∷ 0 ∷ 5 ∷ 0 ∷ []) where
   abbrev record_put : List ℕ
   record_put = put_mid 20 8 (put_mid 12 8 (put_mid 4 8 (head ++ l) start) positive) negative
 

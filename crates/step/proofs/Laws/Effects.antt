@@ -13,7 +13,7 @@ use Rattle.task.specs.declared.index.Effect.{Effect}
 use Rattle.step.specs.Facts.{has, set_of, holds}
 use Rattle.step.specs.Effects.{fired, some_has, changes_of, true_after, changed}
 use Rattle.step.specs.declared.effects.Changes.{Changes}
-use Rattle.step.proofs.Laws.Facts.{has-or, has-without, has_above, has-set, without-lt, without-word, word_set, set_below}
+use Rattle.step.proofs.Laws.Facts.{has-or, has-without, has_above, has-set, without, without-lt, without-word, word_set, set_below}
 
 -- a part of each effect: the facts that it raises, or those that it lowers
 module _ (bytes : List ℕ) (at state count : ℕ) (part : Effect → ℕ) where
@@ -56,13 +56,16 @@ module _ (bytes : List ℕ) (at state count : ℕ) (part : Effect → ℕ) where
       word_set w _ h.small (λ f. sym (or-false (has w f)) ∙ (rw k at (h.found f)))
 
 -- the state afterwards, as a word
-pub changed-word : (state : ℕ) (c : Changes) → state < 2 ^ 64 → c.raised < 2 ^ 64 → c.lowered < 2 ^ 64
-    → bit_or c.raised (bit_and state (2 ^ 64 - 1 - c.lowered)) ≡ changed state c
+pub changed-word : (state : ℕ) (c : Changes) → state < 2 ^ 64 → c.raised < 2 ^ 64 → bit_or c.raised (without state c.lowered) ≡ changed state c
 unfolding changed true_after
-changed-word state c h k l =
-    rw (without-word state c.lowered h l)
-    (word_set _ _ (or_lt 64 _ _ k (without-lt 64 state c.lowered h))
-    (λ f. has-or c.raised _ f ∙ ap (λ (b : Bool). has c.raised f || b) (has-without state c.lowered f)))
+changed-word state c h k =
+    word_set _ _ (or_lt 64 _ _ k (without-lt 64 state c.lowered h))
+    (λ f. has-or c.raised _ f ∙ ap (λ (b : Bool). has c.raised f || b) (has-without state c.lowered f))
+
+-- as the code says it
+pub changed-masked : (state : ℕ) (c : Changes) → state < 2 ^ 64 → c.raised < 2 ^ 64 → c.lowered < 2 ^ 64
+    → bit_or c.raised (bit_and state (2 ^ 64 - 1 - c.lowered)) ≡ changed state c
+changed-masked state c h k l = rw (without-word state c.lowered h l) (changed-word state c h k)
 
 -- the state afterwards, fact by fact: what an effect that fires raises is true, whatever the others lower
 pub fact-after : (state : ℕ) (effects : List Effect) (f : ℕ) → f < 64

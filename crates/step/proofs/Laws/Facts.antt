@@ -4,14 +4,17 @@
 use Prim.Native.Nat.{ℕ, zero, suc, ◌+◌, ◌-◌, ◌*◌, ◌/◌, ◌%◌, ◌^◌, ◌≤◌, ◌<◌}
 use mathlib.Core.Path.{◌≡◌, refl, sym, ap, ◌∙◌}
 use mathlib.Core.Bool.{Bool, true, false, cond, not, ◌&&◌, ◌||◌, and-true, and-false}
-use native.Mathlib.Nat.{mod-lt, mod-one, mod-eq_of_lt, div-eq_of_lt, add-div_right, add-mul-mod_self_right, lt_of_lt_of_le, lt_of_le_of_lt, pow-suc, add_comm, add-zero}
+use mathlib.Core.List.{List, [], ◌∷◌}
+use native.Mathlib.Nat.{mod-lt, mod-one, mod-eq_of_lt, div-eq_of_lt, add-div_right, add-mul-mod_self_right, lt_of_lt_of_le, lt_of_le_of_lt, pow-suc, add_comm, add_assoc, add-zero}
 use native.Mathlib.Numerals.{add-one, one-add}
 use native.Mathlib.Decide.{ℕ_discrete, dec_le, le_ind}
 use native.Mathlib.Omega.{arith}
 use lib.Bits.{bit_and, bit_or, bit_xor, and_shr, and_mod, or_shr, or_mod, xor_shr, xor_mod, and_le_l, or_lt, xor_lt}
 use Rattle.std.proofs.lemmas.Nat.{and_comm, and_assoc, and-not}
 use Rattle.std.specs.Int.Bits.{and_self, xor_add_and}
+use Rattle.std.specs.List.{list_all, enumerate_from}
 use lib.Dec.{eqb}
+use lib.ListN.{length, get_or}
 use lib.Pow.{pow_pos, pow_mono, pow-add, mod-pow-add, field}
 use borrow.Author.Tests.{ne_eqb}
 use Rattle.records.proofs.Laws.Tests.{both_true}
@@ -138,12 +141,8 @@ set_below k (suc n) test h =
       | no l ↦ lt_of_lt_of_le (set-lt (suc n) test) (pow_mono (omega arith))
     ]
 
--- a test that says yes at each of the first places, and a loop that finds that out
+-- a test that says yes at each of the first places
 module _ (test : ℕ → Bool) where
-  pub every_more : (k : ℕ) (a b : Bool) → a ≡ every k test → b ≡ test k → (a && b) ≡ every (k + 1) test
-  unfolding every
-  every_more k a b e f = rw add-one (λ j. e j && f j)
-
   pub every-at : (n : ℕ) → every n test ≡ true → (k : ℕ) → k < n → test k ≡ true
   unfolding every
   every-at zero h k l = absurd (omega arith)
@@ -151,17 +150,31 @@ module _ (test : ℕ → Bool) where
       let both = both_true (every n test) (test n) h in
       elim (ℕ_discrete k n) [ yes e ↦ (rw e both.1) | no e ↦ every-at n both.0 k (omega arith) ]
 
-  pub every-fails : (n k : ℕ) → k < n → test k ≡ false → false ≡ every n test
-  every-fails n k l e = of (every n test) refl
-    where
-      of : (b : Bool) → every n test ≡ b → false ≡ b
-      of true h = sym e ∙ every-at n h k l
-      of false h = refl
-
   pub every-all : (n : ℕ) → ((k : ℕ) → k < n → test k ≡ true) → every n test ≡ true
   unfolding every
   every-all zero h = refl
   every-all (suc n) h = simp (every-all n (λ k l. h k (omega arith)), h n (omega arith))
+
+-- yes at the first place and at each that follows it
+every-first : (n : ℕ) (test : ℕ → Bool) → (test 0 && every n (λ k. test (1 + k))) ≡ every (suc n) test
+unfolding every
+every-first zero test = and-true (test 0)
+every-first (suc n) test = joined (test 0) _ _ ∙ (λ i. every-first n test i && test (one-add n i))
+  where
+    joined : (b p q : Bool) → (b && (p && q)) ≡ ((b && p) && q)
+    joined true p q = refl
+    joined false p q = refl
+
+-- a test of each element of a list with its place says yes everywhere exactly when it does so at each of the list's places
+pub every-listed : {A : Type 0} (test : ℕ × A → Bool) (d : A) (n : ℕ) (xs : List A)
+    → list_all test (enumerate_from n xs) ≡ every (length xs) (λ k. test (n + k, get_or xs k d))
+unfolding every
+every-listed test d n [] = refl
+every-listed test d n (x ∷ xs) =
+    let here : ℕ → Bool = λ k. test (n + k, get_or (x ∷ xs) k d) in
+    let later : (k : ℕ) → test (n + 1 + k, get_or xs k d) ≡ here (1 + k) = λ k. rw (add_assoc n 1 k, one-add k) refl in
+    let first : test (n, x) ≡ here 0 = rw (add-zero n) refl in
+    (λ i. first i && every-listed test d (n + 1) xs i) ∙ (λ i. here 0 && every (length xs) (λ k. later k i)) ∙ every-first (length xs) here
 
 every-none : (n : ℕ) (test : ℕ → Bool) → every n (λ f. not (test f)) ≡ eqb (set_of n test) 0
 unfolding every set_of
@@ -177,16 +190,16 @@ word_none : (w : ℕ) (test : ℕ → Bool) → w < 2 ^ 64 → ((f : ℕ) → te
 word_none w test h k = (λ i. every 64 (λ f. k f i)) ∙ every-none 64 (has w) ∙ ap (λ (x : ℕ). eqb x 0) (set-bits w 64 ∙ mod-eq_of_lt h)
 
 -- a condition holds when no fact that must be true is missing and none that must be false is there
-pub holds-word : (state : ℕ) (l : Literals) → state < 2 ^ 64 → l.positive < 2 ^ 64 → l.negative < 2 ^ 64
-    → eqb (bit_or (bit_and l.positive (2 ^ 64 - 1 - state)) (bit_and l.negative state)) 0 ≡ holds state l
+pub holds-word : (state : ℕ) (l : Literals) → l.positive < 2 ^ 64 → l.negative < 2 ^ 64
+    → eqb (bit_or (without l.positive state) (bit_and l.negative state)) 0 ≡ holds state l
 unfolding holds agrees
-holds-word state l j h k =
-    rw (without-word l.positive state h j) (sym
+holds-word state l h k =
+    sym
     (word_none _ (agrees state l)
     (or_lt 64 _ _ (without-lt 64 _ state h) (lt_of_le_of_lt (and_le_l l.negative state) k))
     (λ f.
     let bits = has-or _ _ f ∙ (λ i. has-without l.positive state f i || has-and l.negative state f i) in
-    sym (ap not bits ∙ table (has l.positive f) (has l.negative f) (has state f)))))
+    sym (ap not bits ∙ table (has l.positive f) (has l.negative f) (has state f))))
   where
     table : (p q s : Bool) → not ((p && not s) || (q && s)) ≡ ((not p || s) && (not q || not s))
     table true true true = refl
@@ -196,3 +209,8 @@ holds-word state l j h k =
     table false false true = refl
     table false true false = refl
     table false false false = refl
+
+-- as the code says it
+pub holds-masked : (state : ℕ) (l : Literals) → state < 2 ^ 64 → l.positive < 2 ^ 64 → l.negative < 2 ^ 64
+    → eqb (bit_or (bit_and l.positive (2 ^ 64 - 1 - state)) (bit_and l.negative state)) 0 ≡ holds state l
+holds-masked state l j h k = rw (without-word l.positive state h j) (holds-word state l h k)

@@ -19,7 +19,7 @@ use Rattle.task.specs.declared.instruction.Instruction.TheVariants.{Empty, Act, 
 use Rattle.task.specs.declared.instruction.Line.{Line}
 use Rattle.task.specs.declared.instruction.Proc.{Proc}
 use Rattle.step.specs.Facts.{has}
-use Rattle.step.specs.Head.{Stands, head_of, left_by, stored, case_head, starting_head, top_of, caller_of, jumped_head, advanced_head, pushed_head, popped_head, head_with, next_head, finished_head, counted_head, goto_head, ended_head, moved_head}
+use Rattle.step.specs.Head.{Stands, head_of, left_by, over, stored, case_head, starting_head, top_of, caller_of, jumped_head, advanced_head, pushed_head, popped_head, head_with, next_head, finished_head, counted_head, goto_head, ended_head, moved_head}
 use Rattle.step.specs.Moved.{moved_by}
 use Rattle.step.specs.Perform.{after_case}
 use Rattle.step.specs.Position.{origin, starting, top, jumped, advanced, pushed, popped, with_facts, next_case, finished, counted}
@@ -105,11 +105,11 @@ module _ (s : Position) (above : 0 < s.depth) where
   either-stored false x y p q l r = r refl
 
   acted-stored : (facts : ℕ) → StoredAs (head_with (advanced_head (head_of s)) facts) (with_facts (advanced s) facts)
-  unfolding stored head_of counted_head counted head_with advanced_head caller_of top_of with_facts advanced jumped
+  unfolding stored over head_of counted_head counted head_with advanced_head caller_of top_of with_facts advanced jumped
   acted-stored facts = ap (later facts s.case s.depth) (set-set s.frames (s.depth - 1) _ _)
 
   jumped-stored : (line : Line) → StoredAs (jumped_head (head_of s) line) (jumped s line)
-  unfolding stored head_of counted_head counted jumped_head top_of jumped
+  unfolding stored over head_of counted_head counted jumped_head top_of jumped
   jumped-stored line = ap (later s.facts s.case s.depth) (set-set s.frames (s.depth - 1) _ _)
 
   advanced-stored : StoredAs (advanced_head (head_of s)) (advanced s)
@@ -117,14 +117,14 @@ module _ (s : Position) (above : 0 < s.depth) where
   advanced-stored = jumped-stored (record { 0 = (top s).line.0 + 1 })
 
   pushed-stored : (procedure : Proc) → StoredAs (pushed_head (head_of s) procedure) (pushed (advanced s) procedure)
-  unfolding stored head_of left_by counted_head counted pushed_head caller_of top_of pushed advanced jumped
+  unfolding stored over head_of left_by counted_head counted pushed_head caller_of top_of pushed advanced jumped
   pushed-stored procedure =
       let f : Frame = record { procedure = procedure; line = record { 0 = 0 } } in
       let back : s.depth + 1 - 1 ≡ s.depth = omega arith in
       simp (lt-ltb s.depth (s.depth + 1) (omega arith), back)
 
   popped-stored : 1 < s.depth → StoredAs (popped_head (head_of s) under) (popped s)
-  unfolding stored head_of left_by counted_head counted popped_head top_of popped
+  unfolding stored over head_of left_by counted_head counted popped_head top_of popped
   popped-stored l =
       let n = s.depth - 1 in
       let freed = set s.frames n origin in
@@ -137,15 +137,15 @@ module _ (s : Position) (above : 0 < s.depth) where
     closed left = let z : s.depth - 1 ≡ 0 = omega arith in rw z (set-set s.frames 0 left origin)
 
     next-stored : (start : ℕ) → StoredAs (next_head (head_of s) start) (next_case s start)
-    unfolding stored head_of counted_head counted next_head top_of next_case origin
+    unfolding stored over head_of counted_head counted next_head top_of next_case origin
     next-stored start = ap (later start (s.case + 1) 1) (closed _)
 
     finished-stored : StoredAs (finished_head (head_of s)) (finished s)
-    unfolding stored head_of counted_head counted finished_head top_of finished origin
+    unfolding stored over head_of counted_head counted finished_head top_of finished origin
     finished-stored = ap (later s.facts (s.case + 1) 0) (closed _)
 
   pub moved-stored : (bytes : List ℕ) (i : Index) (facts : ℕ) (w : Instruction) → StoredAs (moved_head bytes i (head_of s) under facts w) (moved_by bytes i s facts w)
-  unfolding moved_head moved_by goto_head ended_head after_case head_of stored counted_head counted top_of top
+  unfolding moved_head moved_by goto_head ended_head after_case head_of stored over counted_head counted top_of top
   moved-stored bytes i facts Empty =
       ap (later s.facts s.case s.depth) (set-set s.frames (s.depth - 1) _ _ ∙ set-get_or s.frames (s.depth - 1) origin)
   moved-stored bytes i facts (Act action) = acted-stored facts

@@ -3,17 +3,24 @@
 use Prim.Native.Nat.{ℕ, zero, suc, ◌≤◌, ◌<◌}
 use mathlib.Core.Path.{◌≡◌, refl, sym, ◌∙◌}
 use mathlib.Core.Bool.{Bool, beq, true, false, cond, ◌&&◌, true≢false}
+use native.Mathlib.Nat.{zero-add}
 use native.Mathlib.Omega.{arith}
-use lib.Dec.{leb, eqb}
+use lib.Dec.{leb, eqb, ltb}
+use lib.ListN.{length, get_or}
+use Rattle.std.specs.List.{list_all, enumerate_from}
 use borrow.Author.Tests.{ne_eqb, leb-true, le-leb, eqb-true, eq-eqb}
 use Rattle.records.proofs.Laws.Tests.{both_true}
 use Rattle.task.specs.Bounds.{between}
 use Rattle.task.specs.Facts.{within}
+use Rattle.task.specs.declared.bounds.Bounds.{Bounds}
 use Rattle.task.specs.declared.index.Index.{Index}
 use Rattle.task.proofs.Laws.Bounds.{between-true}
 use Rattle.step.specs.Facts.{every}
-use Rattle.step.specs.Possible.{frame_fits, depth_fits, possible}
+use Rattle.step.specs.Position.{origin}
+use Rattle.step.specs.Possible.{in_use, unused, frame_fits, depth_fits, possible}
+use Rattle.step.specs.declared.position.Frame.{Frame}
 use Rattle.step.specs.declared.position.Position.{Position}
+use Rattle.step.proofs.Laws.Facts.{every-listed}
 
 -- no frame exactly when all cases are finished, and at most m, after other tests
 pub depth-tests : (i : Index) (s : Position) (before : Bool)
@@ -78,3 +85,13 @@ module _ (i : Index) (s : Position) where
   pub case-finished : depth_fits i s ≡ true → s.case ≡ i.cases → s.depth ≡ 0
   unfolding depth_fits
   case-finished h e = eqb-true s.depth 0 (rw (eq-eqb s.case i.cases e) at h)
+
+-- a slot of the stack with its place, as the code asks it
+abbrev pub slot_fits : Bounds → Position → ℕ × Frame → Bool
+slot_fits b s (k, frame) = cond (ltb k s.depth) (in_use b frame) (unused frame)
+
+pub slots-fit : (b : Bounds) (s : Position) → length s.frames ≡ 16
+    → list_all (slot_fits b s) (enumerate_from 0 s.frames) ≡ every 16 (frame_fits b s)
+unfolding frame_fits
+slots-fit b s size =
+    (rw size at (every-listed (slot_fits b s) origin 0 s.frames)) ∙ (λ i. every 16 (λ k. slot_fits b s (zero-add k i, get_or s.frames k origin)))

@@ -9,15 +9,19 @@ use native.Mathlib.Omega.{arith}
 use lib.ListN.{length}
 use lib.Dec.{eqb}
 use borrow.Author.Tests.{eq-eqb, ne_eqb, eqb-false}
+use Rattle.std.specs.Prelude.{Result, Ok, Err}
 use Rattle.records.specs.Loop.{Turn, stop, go}
 use Rattle.records.proofs.Laws.Tests.{cond_either, cond_yes, cond_no}
 use Rattle.task.specs.Program.{program_verdict}
 use Rattle.task.specs.Reading.{read_task, Reading}
-use Rattle.task.specs.Verdict.{value_of, Verdict, Accepted, Refused}
+use Rattle.task.specs.Verdict.{value_of, Verdict, Accepted, Refused, number}
 use Rattle.task.specs.declared.index.Index.{Index}
 use Rattle.task.specs.declared.index.Layout.{Layout}
+use Rattle.task.specs.declared.questions.Question.{Question}
+use Rattle.task.specs.declared.refusal.Refusal.{Refusal}
 use Rattle.task.proofs.Laws.Passed.{Passed, passed}
 use Rattle.task.proofs.Laws.Verdict.{refused-accepted}
+use Rattle.step.specs.Moved.{line_as}
 use Rattle.step.specs.Perform.{Stepped, run_line, run_step, unchanged, answered}
 use Rattle.step.specs.Possible.{possible}
 use Rattle.step.specs.Questions.{STEPS, POSSIBLE}
@@ -50,6 +54,18 @@ module _ (bytes : List ℕ) (i : Index) (offsets program : List ℕ) (s : Positi
   pub step_lines : h ≡ true → (s.depth ≡ 0 → ⊥) → s.steps < i.bounds.steps → (r : Stepped) → r ≡ answered s (run_line bytes i offsets program s)
       → r ≡ step_once bytes i offsets program s
   step_lines y d l r k = k ∙ ap (answered s) (steps-left bytes i offsets program s l) ∙ step-runs y d
+
+  -- the line answers: a no is refused where the step would be made, else it is made
+  module _ (y : h ≡ true) (d : s.depth ≡ 0 → ⊥) (l : s.steps < i.bounds.steps) (a : Result Position Question)
+      (k : line_as a ≡ run_line bytes i offsets program s) where
+    pub step-no : (f : Refusal) → (question : Question) × (a ≡ Err question) × (f ≡ record { question = question; place = s.steps })
+        → unchanged s (Refused (number f.question) f.place) ≡ step_once bytes i offsets program s
+    unfolding answered line_as
+    step-no f x = rw x.2 (step_lines y d l _ (ap (answered s) (rw x.1 at k)))
+
+    pub step-made : (next : Position) → a ≡ Ok next → record { verdict = Accepted 1; position = next } ≡ step_once bytes i offsets program s
+    unfolding answered line_as
+    step-made next x = step_lines y d l _ (ap (answered s) (rw x at k))
 
 -- the task's reading `r`, its verdict first
 module _ (bytes program : List ℕ) (s : Position) (r : Reading) (e : r ≡ read_task bytes) where

@@ -19,7 +19,7 @@ use Rattle.task.specs.declared.index.Index.{Index}
 use Rattle.task.specs.declared.instruction.Instruction.{Instruction}
 use Rattle.task.specs.declared.instruction.Instruction.TheVariants.{Empty, Act, Goto, Call, End}
 use Rattle.task.specs.declared.questions.Question.{Question}
-use Rattle.step.specs.Head.{head_of, top_of, left_by, stored, counted_head, ended_head, moved_head}
+use Rattle.step.specs.Head.{head_of, top_of, left_by, over, stored, counted_head, ended_head, moved_head}
 use Rattle.step.specs.Moved.{performed_as, line_as}
 use Rattle.step.specs.Perform.{Stepped, perform, run_line, run_step, unchanged, answered}
 use Rattle.step.specs.Position.{origin, top}
@@ -35,7 +35,7 @@ use Rattle.step.proofs.Laws.Moved.{line-stops, line-goes}
 use Rattle.step.proofs.Laws.Ready.{possible-depth, open-depth}
 use Rattle.step.proofs.Laws.Single.{step-finished, step-runs, both-passed, single-possible}
 use Rattle.steps.specs.Many.{StepsTaken, taken_to, onward, steps_from}
-use Rattle.steps.specs.Running.{over, Admitted}
+use Rattle.steps.specs.Running.{Admitted}
 
 -- a head over its frames has the head's own parts
 module _ (h : Head) (frames : List Frame) (size : length frames ≡ 16) (d : h.depth ≤ 16) where

@@ -1,5 +1,5 @@
 -- The search for the first no, place by place: the test at a place says whether the search goes on or ends there. `Searching` is the
--- invariant of every loop that makes such a search. A search finds none exactly if each place passed, and two tests that agree find the same.
+-- invariant of a loop that makes such a search. A search finds none exactly if each place passed, and two tests that agree find the same.
 -- Assumes nothing.
 use Prim.Native.Nat.{ℕ, zero, suc, ◌+◌, ◌-◌, ◌≤◌, ◌<◌}
 use mathlib.Core.Path.{◌≡◌, refl, sym, ap, ◌∙◌}

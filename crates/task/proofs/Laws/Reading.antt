@@ -154,13 +154,13 @@ module _ (bytes : List ℕ) (p : Progress) (body next : ℕ) (o q : List ℕ) wh
   unfolding part_turned case_turn
   case_full h = ask-no _ _ _ (le-ltb p.index.cases 32 h)
 
-  module _ (h : p.index.cases < 32) (there : body + 24 ≤ length bytes) (start : ℕ) (goal : Literals) (c : Bool)
-      (e₁ : start ≡ eight_at bytes body) (e₂ : goal ≡ literals_at bytes (body + 8)) (e₃ : c ≡ case_consistent p.index.bounds.facts start goal) where
+  module _ (h : p.index.cases < 32) (start : ℕ) (goal : Literals) (c : Bool)
+      (e₁ : start ≡ u64_at bytes body) (e₂ : goal ≡ literals_at bytes (body + 8)) (e₃ : c ≡ case_consistent p.index.bounds.facts start goal) where
     few-cases : ltb p.index.cases 32 ≡ true
     few-cases = lt-ltb p.index.cases 32 h
 
     sets : c ≡ case_consistent p.index.bounds.facts (u64_at bytes body) (literals_at bytes (body + 8))
-    sets = cc (u64-there bytes body start e₁ (omega arith))
+    sets = cc
 
     pub case-no : c ≡ false → part_turned bytes p 4 body next (Err TaskFacts) o q ≡ case_turn bytes (state p o q) body next
     unfolding part_turned case_turn

@@ -1,7 +1,6 @@
 -- `checker::check::check_plan` meets its contract: the task's verdict decides, then the check against a task that passes.
 -- Assumes nothing.
 use Rattle.std.proofs.lemmas.Result.{err_from_is_err_and}
-use Rattle.step.proofs.Laws.Ready.{read-held}
 use Rattle.checker.proofs.Laws.Answer.{task-refused}
 use Rattle.checker.proofs.check.check_plan.Goals as goal
 
@@ -9,6 +8,3 @@ pub returns-in_err-layout : goal.returns-in_err-layout
 returns-in_err-layout c =
     let p = err_from_is_err_and c.from_residual.result c.from_residual.ensures.1 in
     rw (p.1, p.2) (task-refused _ _ _ _ c.in_err-layout.ensures)
-
-pub invariant_of-held : goal.invariant_of-held
-invariant_of-held c = record { held = read-held _ _ c.in_ok-layout.ensures }

@@ -42,7 +42,11 @@ pub read_step-requires : goal.read_step-requires
 read_step-requires c =
     let y = shaped _ _ _ c.in_ok-kind.ensures.1 in
     let step = not-closing _ _ c.in_ok-kind.ensures.0 (λ z. false≢true (rw z at c.if-eq.ensures)) in
-    (shaped-left _ _ _ _ y step, step-there _ _ _ c.plan_record.ensures _ c.in-Some.is y.fits step)
+    record {
+      step = rw c.in_ok-kind.ensures.0 at step;
+      left = shaped-left _ _ _ _ y step;
+      there = step-there _ _ _ c.plan_record.ensures _ c.in-Some.is y.fits step;
+    }
 
 pub returns-clause-turn : goal.returns-clause-turn
 returns-clause-turn c =

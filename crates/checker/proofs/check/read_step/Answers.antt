@@ -3,6 +3,7 @@
 use mathlib.Core.Path.{◌≡◌, sym, ◌∙◌}
 use mathlib.Core.Bool.{true, false}
 use native.Mathlib.Omega.{arith}
+use Rattle.std.proofs.lemmas.Bool.{not-true, not-false}
 use Rattle.step.specs.Head.{top_of}
 use Rattle.step.specs.Position.{same_frame}
 use Rattle.checker.specs.Outcome.{read_turn, ReadyAt}
@@ -16,9 +17,8 @@ returns-then-not-decodes_for-clause-turn c =
     let a = c.args in
     let t = a.task in
     λ program at callers s st.
-    none-decoded t.bytes.now t.index t.offsets.now at s program a.plan.now _ a.found.body a.found.next (omega (arith, st.steps, c.requires.0))
-    c.triple_at-triple.result c.triple_at-triple.ensures c.decodes_for.result
-    c.decodes_for.ensures c.if-not-decodes_for.true
+    none-decoded t.bytes.now t.index t.offsets.now at s program a.plan.now _ a.found.body a.found.next (omega (arith, st.steps, c.requires.left))
+    c.triple_at-triple.ensures c.decodes_for.ensures c.if-not-decodes_for.true
 
 pub returns-then-task-head-clause-turn : goal.returns-then-task-head-clause-turn
 unfolding read_turn frame_at
@@ -26,21 +26,19 @@ returns-then-task-head-clause-turn c =
     let a = c.args in
     let t = a.task in
     λ program at callers s st.
-    none_open t.bytes.now t.index t.offsets.now at s program a.plan.now _ a.found.body a.found.next (omega (arith, st.steps, c.requires.0))
-    c.triple_at-triple.result c.triple_at-triple.ensures c.decodes_for.result
-    c.decodes_for.ensures c.if-not-decodes_for.false (omega (arith, st.case, c.if-task-head.true))
+    none_open t.bytes.now t.index t.offsets.now at s program a.plan.now _ a.found.body a.found.next (omega (arith, st.steps, c.requires.left))
+    c.triple_at-triple.ensures c.decodes_for.ensures c.if-not-decodes_for.false (omega (arith, st.case, c.if-task-head.true))
 
-pub returns-then-not-eq-clause-turn : goal.returns-then-not-eq-clause-turn
+pub returns-then-ne-clause-turn : goal.returns-then-ne-clause-turn
 unfolding read_turn frame_at same_frame top_of
-returns-then-not-eq-clause-turn c =
+returns-then-ne-clause-turn c =
     let a = c.args in
     let t = a.task in
     let f = frame_at a.plan.now a.found.body in
-    let elsewhere : same_frame f (top_of a.head) ≡ false = rw (← c.eq.ensures, ← c.eq-2.ensures) c.if-not-eq.true in
+    let elsewhere : same_frame f (top_of a.head) ≡ false = not-true _ (sym (rw c.top.ensures at c.ne.ensures) ∙ c.if-ne.true) in
     λ program at callers s st.
-    another-line t.bytes.now t.index t.offsets.now at s program a.plan.now _ a.found.body a.found.next (omega (arith, st.steps, c.requires.0))
-    c.triple_at-triple.result c.triple_at-triple.ensures c.decodes_for.result
-    c.decodes_for.ensures c.if-not-decodes_for.false (omega (arith, st.case, c.if-task-head.false))
+    another-line t.bytes.now t.index t.offsets.now at s program a.plan.now _ a.found.body a.found.next (omega (arith, st.steps, c.requires.left))
+    c.triple_at-triple.ensures c.decodes_for.ensures c.if-not-decodes_for.false (omega (arith, st.case, c.if-task-head.false))
     (rw st.top elsewhere)
 
 pub spelled-requires : goal.spelled-requires
@@ -57,12 +55,12 @@ returns-clause-turn c =
     let a = c.args in
     let t = a.task in
     let f = frame_at a.plan.now a.found.body in
-    let here : same_frame f (top_of a.head) ≡ true = rw (← c.eq.ensures, ← c.eq-2.ensures) c.if-not-eq.false in
+    let here : same_frame f (top_of a.head) ≡ true = not-false _ (sym (rw c.top.ensures at c.ne.ensures) ∙ c.if-ne.false) in
     λ program at callers s st.
     rw c.step_of.ensures
-    (step-ready t.bytes.now t.index t.offsets.now at s program a.plan.now _ a.found.body a.found.next (omega (arith, st.steps, c.requires.0))
-    c.triple_at-triple.result c.triple_at-triple.ensures c.decodes_for.result c.decodes_for.ensures c.if-not-decodes_for.false
-    (omega (arith, st.case, c.if-task-head.false)) (same-frame f (top_of a.head) here ∙ sym st.top) c.spelled.result c.spelled.ensures)
+    (step-ready t.bytes.now t.index t.offsets.now at s program a.plan.now _ a.found.body a.found.next (omega (arith, st.steps, c.requires.left))
+    c.triple_at-triple.ensures c.decodes_for.ensures c.if-not-decodes_for.false
+    (omega (arith, st.case, c.if-task-head.false)) (same-frame f (top_of a.head) here ∙ sym st.top) c.spelled.ensures)
 
 pub returns-clause-ready : goal.returns-clause-ready
 unfolding ReadyAt frame_at same_frame top_of
@@ -70,7 +68,7 @@ returns-clause-ready c =
     let a = c.args in
     let t = a.task in
     let f = frame_at a.plan.now a.found.body in
-    let here : same_frame f (top_of a.head) ≡ true = rw (← c.eq.ensures, ← c.eq-2.ensures) c.if-not-eq.false in
+    let here : same_frame f (top_of a.head) ≡ true = not-false _ (sym (rw c.top.ensures at c.ne.ensures) ∙ c.if-ne.false) in
     rw c.step_of.ensures
-    (step-is-ready t.index a.head t.held.task.ranges c.if-task-head.false c.requires.0 f here c.triple_at-triple.result c.decodes_for.result
-    c.decodes_for.ensures c.if-not-decodes_for.false c.spelled.result c.spelled.ensures _)
+    (step-is-ready t.index a.head t.held.task.ranges c.if-task-head.false c.requires.left f here c.decodes_for.ensures
+    c.if-not-decodes_for.false c.spelled.ensures _)

@@ -21,34 +21,34 @@ unfolding starting_head
 caller-callers-requires c = rw c.starting-head.ensures (omega arith)
 
 pub loop-head-init : goal.loop-head-init
-loop-head-init c = runs-begin _ _ _ c.requires.read c.requires.passes _ c.starting-head.ensures _ refl _ refl
+loop-head-init c = runs-begin _ _ _ c.requires.read c.requires.passes c.starting-head.ensures _ refl _ refl
 
 pub returns-then-task-head : goal.returns-then-task-head
 returns-then-task-head c =
-    rw c.at.ensures (runs-out _ _ _ c.requires.read c.requires.passes _ _ _ c.loop-head.invariant c.loop-head-test.true c.if-task-head.true _)
+    rw c.at.ensures (runs-out c.loop-head.invariant c.loop-head-test.true c.if-task-head.true _)
 
 pub line_instruction-w-requires : goal.line_instruction-w-requires
-line_instruction-w-requires c = runs-line _ _ _ c.requires.read c.requires.passes _ _ _ c.loop-head.invariant c.loop-head-test.true
+line_instruction-w-requires c = runs-line c.loop-head.invariant c.loop-head-test.true
 
 pub ask-requires : goal.ask-requires
 ask-requires c = (
   c.loop-head-test.true,
-  runs-known _ _ _ c.requires.read c.requires.passes _ _ _ c.loop-head.invariant c.loop-head-test.true c.if-task-head.false _ c.line_instruction-w.ensures,
+  runs-known c.loop-head.invariant c.loop-head-test.true c.if-task-head.false c.line_instruction-w.ensures,
 )
 
 pub returns-in_err-facts : goal.returns-in_err-facts
 returns-in_err-facts c =
     let p = err_from_is_err_and c.from_residual.result c.from_residual.ensures.1 in
     rw (p.1, p.2)
-    (runs-stop _ _ _ c.requires.read c.requires.passes _ _ _ c.loop-head.invariant c.loop-head-test.true c.if-task-head.false _ c.line_instruction-w.ensures
+    (runs-stop c.loop-head.invariant c.loop-head-test.true c.if-task-head.false c.line_instruction-w.ensures
     c.ask.result c.ask.ensures.0 _ (search rules) _)
 
 pub caller-requires : goal.caller-requires
-caller-requires c = runs-small _ _ _ c.requires.read c.requires.passes _ _ _ c.loop-head.invariant c.loop-head-test.true
+caller-requires c = runs-small c.loop-head.invariant c.loop-head-test.true
 
 pub moved-head-requires : goal.moved-head-requires
 moved-head-requires c = (
-  runs-fits _ _ _ c.requires.read c.requires.passes _ _ _ c.loop-head.invariant c.loop-head-test.true c.if-task-head.false _ c.line_instruction-w.ensures,
+  runs-fits c.loop-head.invariant c.loop-head-test.true c.if-task-head.false c.line_instruction-w.ensures,
   c.args.task.held.case,
 )
 
@@ -59,17 +59,17 @@ pub loop-head-preserved : goal.loop-head-preserved
 unfolding origin
 loop-head-preserved c =
     let a : c.ask.result ≡ Ok c.in_ok-facts.facts = search rules in
-    runs_on _ _ _ c.requires.read c.requires.passes _ _ _ c.loop-head.invariant c.loop-head-test.true c.if-task-head.false _ c.line_instruction-w.ensures
-    c.ask.result c.ask.ensures.0 _ a _ c.caller.ensures _ refl _ c.moved-head.ensures
+    runs_on c.loop-head.invariant c.loop-head-test.true c.if-task-head.false c.line_instruction-w.ensures c.ask.result c.ask.ensures.0 a
+    c.top.ensures c.caller.ensures refl c.moved-head.ensures
 
 pub slice_bounds-trace-end : goal.slice_bounds-trace-end
-slice_bounds-trace-end c = runs-count _ _ _ c.requires.read c.requires.passes _ _ _ c.loop-head.invariant
+slice_bounds-trace-end c = runs-count c.loop-head.invariant
 
 pub slice_bounds-write_records-end : goal.slice_bounds-write_records-end
-slice_bounds-write_records-end c = sym (length-take-le _ _ (runs-count _ _ _ c.requires.read c.requires.passes _ _ _ c.loop-head.invariant))
+slice_bounds-write_records-end c = sym (length-take-le _ _ (runs-count c.loop-head.invariant))
 
 pub write_records-requires : goal.write_records-requires
-write_records-requires c = runs-spelled _ _ _ c.requires.read c.requires.passes _ _ _ c.loop-head.invariant c.loop-head-test.false
+write_records-requires c = runs-spelled c.loop-head.invariant c.loop-head-test.false
 
 pub returns : goal.returns
-returns c = runs-end _ _ _ c.requires.read c.requires.passes _ _ _ c.loop-head.invariant c.loop-head-test.false _ _ c.write_records.ensures
+returns c = runs-end c.loop-head.invariant c.loop-head-test.false _ _ c.write_records.ensures

@@ -2,7 +2,6 @@
 -- Assumes nothing.
 use mathlib.Core.Path.{◌∙◌}
 use Rattle.std.proofs.lemmas.Result.{err_from_is_err_and}
-use Rattle.step.proofs.Laws.Ready.{read-held}
 use Rattle.checker.proofs.Laws.Answer.{task-turned-down, program-refused, run-answers}
 use Rattle.checker.proofs.write.write_plan.Goals as goal
 
@@ -16,8 +15,7 @@ returns-in_err-check_program c =
     let p = err_from_is_err_and c.from_residual-in_err-check_program.result c.from_residual-in_err-check_program.ensures.1 in
     rw (p.1, p.2) (program-refused _ _ _ _ c.in_ok-layout.ensures _ c.in_err-check_program.ensures)
 
-pub invariant_of-held : goal.invariant_of-held
-invariant_of-held c = record { held = read-held _ _ c.in_ok-layout.ensures }
-
 pub returns : goal.returns
-returns c = c.run.ensures ∙ run-answers _ _ c.args.buffer.now _ c.in_ok-layout.ensures c.in_ok-check_program.ensures
+returns c =
+    let run = rw (c.new-held.ensures.bytes, c.new-held.ensures.index, c.new-held.ensures.offsets) at c.run.ensures in
+    run ∙ run-answers _ _ c.args.buffer.now _ c.in_ok-layout.ensures c.in_ok-check_program.ensures

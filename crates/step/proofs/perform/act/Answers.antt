@@ -1,7 +1,7 @@
 -- `step::perform::act` meets its contract: question 19 decides, and the word is the facts that the definition has afterwards.
 -- Assumes nothing.
 use native.Mathlib.Omega.{arith}
-use Rattle.step.proofs.Laws.Effects.{changed-word}
+use Rattle.step.proofs.Laws.Effects.{changed-masked}
 use Rattle.step.proofs.Laws.Answers.{act-refused, act-moves}
 use Rattle.step.proofs.perform.act.Goals as goal
 
@@ -17,4 +17,4 @@ returns c =
     let a = c.args in
     act-moves a.task.now a.at a.facts c.action_at-action.result c.action_at-action.ensures c.holds.result c.holds.ensures
     c.if-not-holds.false changes.result changes.ensures _
-    (changed-word a.facts changes.result c.ranges.facts.fits (omega arith) (omega arith))
+    (changed-masked a.facts changes.result c.ranges.facts.fits (omega arith) (omega arith))

@@ -5,7 +5,6 @@ use Rattle.std.proofs.lemmas.Result.{err_from_is_err_and}
 use Rattle.task.specs.Reading.{refused, accepted, reading}
 use Rattle.step.specs.Perform.{stepped}
 use Rattle.step.proofs.Laws.Single.{task-refused, program-refused, both-passed}
-use Rattle.step.proofs.Laws.Ready.{read-held}
 use Rattle.step.proofs.single.single_step.Goals as goal
 
 pub returns-in_err-layout : goal.returns-in_err-layout
@@ -20,9 +19,8 @@ returns-in_err-check_program c =
     let p = err_from_is_err_and c.from_residual-in_err-check_program.result c.from_residual-in_err-check_program.ensures.1 in
     rw (p.1, p.2) (program-refused _ _ _ _ c.in_ok-layout.ensures _ refl _ c.in_err-check_program.ensures _ _ refl)
 
-pub invariant_of-held : goal.invariant_of-held
-invariant_of-held c = record { held = read-held _ _ c.in_ok-layout.ensures }
-
 pub returns : goal.returns
 unfolding reading accepted
-returns c = c.step_once.ensures ∙ both-passed _ _ c.args.position _ c.in_ok-layout.ensures _ refl _ c.in_ok-check_program.ensures _ refl
+returns c =
+    let step = rw (c.new.ensures.bytes, c.new.ensures.index, c.new.ensures.offsets) at c.step_once.ensures in
+    step ∙ both-passed _ _ c.args.position _ c.in_ok-layout.ensures _ refl _ c.in_ok-check_program.ensures _ refl

@@ -1,9 +1,9 @@
 -- `step::single::step_once` meets its contract: question 31 decides, then whether the run is finished, then question 14.
 -- Assumes nothing.
-use mathlib.Core.Path.{ap}
-use Rattle.step.specs.Moved.{line_as}
-use Rattle.step.specs.Perform.{stepped, answered}
-use Rattle.step.proofs.Laws.Single.{step-impossible, step-finished, step-late, step_lines}
+use Rattle.std.proofs.Common.{rules}
+use Rattle.std.proofs.lemmas.Result.{err_from_is_err_and}
+use Rattle.step.specs.Perform.{stepped}
+use Rattle.step.proofs.Laws.Single.{step-impossible, step-finished, step-late, step-no, step-made}
 use Rattle.step.proofs.single.step_once.Goals as goal
 
 pub returns-then-not-possible : goal.returns-then-not-possible
@@ -22,15 +22,16 @@ returns-then-task-position c =
     rw c.at-then-task-position.ensures
     (step-late _ _ _ _ _ _ c.possible.ensures c.if-not-possible.false c.if-position-eq0.false c.if-task-position.true)
 
-pub returns-in-Ok : goal.returns-in-Ok
-unfolding stepped answered line_as
-returns-in-Ok c =
-    step_lines _ _ _ _ _ _ c.possible.ensures c.if-not-possible.false c.if-position-eq0.false c.if-task-position.false _
-    (ap (answered c.args.position) c.in-Ok.ensures)
+pub returns-in_err-next : goal.returns-in_err-next
+unfolding stepped
+returns-in_err-next c =
+    let p = err_from_is_err_and c.from_residual.result c.from_residual.ensures.1 in
+    rw (p.1, p.2)
+    (step-no _ _ _ _ _ _ c.possible.ensures c.if-not-possible.false c.if-position-eq0.false c.if-task-position.false c.run_line.result c.run_line.ensures _
+    (search rules))
 
-pub returns-in-Err : goal.returns-in-Err
-unfolding stepped answered line_as
-returns-in-Err c =
-    rw c.at-in-Err.ensures
-    (step_lines _ _ _ _ _ _ c.possible.ensures c.if-not-possible.false c.if-position-eq0.false c.if-task-position.false _
-    (ap (answered c.args.position) c.in-Err.ensures))
+pub returns : goal.returns
+unfolding stepped
+returns c =
+    step-made _ _ _ _ _ _ c.possible.ensures c.if-not-possible.false c.if-position-eq0.false c.if-task-position.false c.run_line.result c.run_line.ensures _
+    (search rules)

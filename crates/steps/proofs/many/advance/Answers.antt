@@ -2,10 +2,11 @@
 -- Assumes nothing.
 use Rattle.std.proofs.Common.{◌≡◌, ◌<◌, ◌≤◌, ◌+◌, ◌-◌, ◌%◌, ℕ, List, ap, get_or, arith}
 use Rattle.std.proofs.lemmas.Result.{err_from_is_err_and}
+use Rattle.step.specs.Head.{over}
 use Rattle.step.specs.Position.{origin}
 use Rattle.step.specs.declared.position.Frame.{Frame}
 use Rattle.step.proofs.Laws.Ready.{head-case, head-line, head-known, head-fits}
-use Rattle.steps.specs.Running.{over, advanced_as}
+use Rattle.steps.specs.Running.{advanced_as}
 use Rattle.steps.proofs.Laws.Running.{over-few, over-itself, over-late, over-runs, over-refused, over-moves}
 use Rattle.steps.proofs.many.advance.Goals as goal
 

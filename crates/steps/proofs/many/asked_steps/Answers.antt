@@ -3,7 +3,6 @@
 use Rattle.std.proofs.Common.{◌∙◌, refl, sym, ap, min}
 use Rattle.std.proofs.lemmas.Result.{err_from_is_err_and}
 use Rattle.task.specs.Reading.{Reading, refused, accepted, reading}
-use Rattle.step.proofs.Laws.Ready.{read-held}
 use Rattle.steps.specs.Running.{asked_as}
 use Rattle.steps.proofs.Laws.Many.{least-asked, many-task-refused, many-program-refused, BothPass, many-impossible, many-runs}
 use Rattle.steps.proofs.many.asked_steps.Goals as goal
@@ -27,14 +26,12 @@ returns-then-not-possible c =
     record { read = c.in_ok-layout.ensures; value = _; task = refl; asked = c.in_ok-check_program.ensures; own = _; passes = refl } in
     rw c.at.ensures (many-impossible _ _ _ _ both _ _ c.possible.ensures c.if-not-possible.true _)
 
-pub invariant_of-held : goal.invariant_of-held
-invariant_of-held c = record { held = read-held _ _ c.in_ok-layout.ensures }
-
 pub run-requires : goal.run-requires
 unfolding reading accepted
 run-requires c =
     let e = sym c.in_ok-layout.ensures in
-    record {
+    rw (c.new.ensures.bytes, c.new.ensures.index, c.new.ensures.offsets)
+    (record {
       value = 0;
       task = ap (λ (r : Reading). r.verdict) e;
       index = ap (λ (r : Reading). r.layout.index) e;
@@ -42,7 +39,7 @@ run-requires c =
       checked = 0;
       program = rw e (sym c.in_ok-check_program.ensures);
       possible = sym c.possible.ensures ∙ c.if-not-possible.false;
-    }
+    })
 
 -- `wanted` is the number of steps that is asked for
 pub returns : goal.returns
@@ -50,5 +47,5 @@ unfolding asked_as reading accepted
 returns c =
     let both : BothPass c.args.task.now c.args.program.now _ _ =
     record { read = c.in_ok-layout.ensures; value = _; task = refl; asked = c.in_ok-check_program.ensures; own = _; passes = refl } in
-    c.run.ensures ∙ many-runs _ _ _ _ both _ _ c.possible.ensures c.if-not-possible.false _ _
+    (rw c.new.ensures.bytes at c.run.ensures) ∙ many-runs _ _ _ _ both _ _ c.possible.ensures c.if-not-possible.false _ _
     (c.min-wanted.ensures ∙ ap (min c.args.count) c.from.ensures ∙ least-asked _)

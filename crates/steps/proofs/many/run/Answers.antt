@@ -29,8 +29,8 @@ loop-preserved c =
       none = search rules;
     }
 
-pub position_over-requires : goal.position_over-requires
-position_over-requires c = reached-few _ _ _ _ _ c.requires _ _ _ _ c.loop.invariant.reached c.args.task.held.task
+pub over-requires : goal.over-requires
+over-requires c = reached-few _ _ _ _ _ c.requires _ _ _ _ c.loop.invariant.reached c.args.task.held.task
 
 -- the loop ends after all steps, at the finish, or where a question says no, which leaves the frames as they were
 pub returns : goal.returns
@@ -39,7 +39,7 @@ returns c =
     let x = c.loop in
     let r = x.invariant.reached in
     let made : x.head.steps - c.args.first.steps ≡ x.counter = omega (arith, r.steps) in
-    rw (c.position_over.ensures, made)
+    rw (c.over.ensures, made)
     (elim c.loop-test.branch [
       | else-loop-test w ↦
           rw (w.frames-is, w.refusal-is, x.invariant.none) (reached-all _ _ _ _ _ c.requires _ _ _ _ r w.loop-test.false)

@@ -8,4 +8,4 @@ pub returns : goal.returns
 unfolding case_consistent
 returns c =
     let greatest = c.most-most.ensures in
-    cc (greatest c.args.start (search rules), c.consistent_to.ensures _ greatest)
+    cc (greatest c.args.case.start (search rules), c.consistent_to.ensures _ greatest)

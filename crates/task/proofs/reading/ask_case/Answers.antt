@@ -8,10 +8,10 @@ returns-then-p-ge32 c = λ next o q. case_full _ _ _ next o q c.if-p-ge32.true
 
 pub returns-then-case_consistent : goal.returns-then-case_consistent
 returns-then-case_consistent c =
-    λ next o q. case-yes _ _ _ next o q c.if-p-ge32.false c.requires _ _ _ c.eight_at-start.ensures c.literals_at.ensures
+    λ next o q. case-yes _ _ _ next o q c.if-p-ge32.false _ _ _ c.case_body_at.ensures.0 c.case_body_at.ensures.1
     c.case_consistent.ensures c.if-case_consistent.true
 
 pub returns : goal.returns
 returns c =
-    λ next o q. case-no _ _ _ next o q c.if-p-ge32.false c.requires _ _ _ c.eight_at-start.ensures c.literals_at.ensures
+    λ next o q. case-no _ _ _ next o q c.if-p-ge32.false _ _ _ c.case_body_at.ensures.0 c.case_body_at.ensures.1
     c.case_consistent.ensures c.if-case_consistent.false
