@@ -33,7 +33,9 @@ pub fn answer_all<R: Read, F: FnMut(&mut R, u16, u16) -> io::Result<bool>>(
 }
 
 // Reads so many bytes into the start of a space, which has room for any such number; at the end of the input fewer are read.
-pub fn read_body<'a>(input: &mut impl Read, space: &'a mut [u8; 65536], size: u16) -> &'a mut [u8] {
+pub fn read_body<'a>(input: &mut impl Read, space: &'a mut [u8; 65536], size: u16) -> &'a mut [u8]
+    ensures { length result.now ≡ size }
+{
     let body = &mut space[..size as usize];
     let _ = input.read_exact(body);
     body

@@ -12,7 +12,7 @@ use lib.Dec.{leb}
 use borrow.Author.Tests.{le-leb, lt-leb}
 use Rattle.task.specs.Bounds.{in_range, line_count, program_size}
 use Rattle.task.specs.Program.{program_verdict}
-use Rattle.task.specs.Reading.{read_task, refused as refused_task, accepted as accepted_task, reading}
+use Rattle.task.specs.Reading.{Reading, read_task, refused as refused_task, accepted as accepted_task, reading}
 use Rattle.task.specs.declared.bounds.Bounds.{Bounds}
 use Rattle.task.specs.declared.index.Layout.{Layout}
 use Rattle.task.specs.Verdict.{Refused, verdict, unit_verdict}
@@ -83,10 +83,22 @@ module _ (bytes : List ℕ) (t : Layout) (a : reading (Ok t) ≡ read_task bytes
       plan-accepted steps e after g = rw g (answered (Ok steps) e)
 
 -- a program, and a task that is turned down
-pub task-turned-down : (bytes program buffer : List ℕ) (r : Refusal) → reading (Err r) ≡ read_task bytes
+module _ (bytes program buffer : List ℕ) (r : Reading) (e : r ≡ read_task bytes) where
+  on-task : on_finish buffer (passing r.verdict (passing (program_verdict r.layout.index r.layout.presets program) (run bytes r.layout program)))
+      ≡ write bytes program buffer
+  unfolding write program_result
+  on-task = rw e refl
+
+  pub task-turned-down : (question place : ℕ) → r.verdict ≡ Refused question place
+      → ◌≡◌ {A = Answer} (record { verdict = r.verdict; buffer = buffer }) (write bytes program buffer)
+  unfolding passing on_finish answer
+  task-turned-down question place h = rw h (rw h at on-task)
+
+-- the same of the code's answer
+pub task-no : (bytes program buffer : List ℕ) (r : Refusal) → reading (Err r) ≡ read_task bytes
     → ◌≡◌ {A = Answer} (record { verdict = verdict (Err r); buffer = buffer }) (write bytes program buffer)
-unfolding write program_result passing on_finish reading refused_task
-task-turned-down bytes program buffer r e = rw (← e) refl
+unfolding reading refused_task
+task-no bytes program buffer r e = task-turned-down bytes program buffer (reading (Err r)) e _ _ refl
 
 -- a task that passes
 module _ (bytes program buffer : List ℕ) (t : Layout) (e : reading (Ok t) ≡ read_task bytes) where

@@ -32,12 +32,19 @@ use Rattle.checker.proofs.Laws.Trace.{lines_next, records-next, record_next, nex
 use Rattle.checker.proofs.Laws.Write.{closing-length}
 
 -- bytes that are copied to a part of a buffer: those before and behind them keep their value
-pub put_in : (at : ℕ) (buffer others : List ℕ)
-    → take at buffer ++ (others ++ drop (at + length others - at) (drop at buffer)) ≡ with_bytes buffer at (length others) others
+pub put_in : (at size : ℕ) (buffer others : List ℕ)
+    → take at buffer ++ (take size others ++ drop (at + size - at) (drop at buffer)) ≡ with_bytes buffer at size others
 unfolding with_bytes
-put_in at buffer others =
-    let n : at + length others - at ≡ length others = omega arith in
-    rw (n, drop-drop (length others) at buffer, take-length others) refl
+put_in at size buffer others =
+    let n : at + size - at ≡ size = omega arith in
+    rw (n, drop-drop size at buffer) refl
+
+-- of all the bytes that are copied
+pub put_whole : (at : ℕ) (buffer others : List ℕ)
+    → take at buffer ++ (others ++ drop (at + length others - at) (drop at buffer)) ≡ with_bytes buffer at (length others) others
+put_whole at buffer others =
+    ap (λ (part : List ℕ). take at buffer ++ (part ++ drop (at + length others - at) (drop at buffer))) (sym (take-length others))
+    ∙ put_in at (length others) buffer others
 
 -- bytes that are put behind the records so far: those behind both keep their value
 put_next : (records plan added : List ℕ) (at size : ℕ) → length records ≡ at → length added ≡ size

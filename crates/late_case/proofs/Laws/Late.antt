@@ -10,7 +10,7 @@ use native.Mathlib.Decide.{dec_lt}
 use native.Mathlib.Omega.{arith}
 use Rattle.std.proofs.lemmas.List.{length-take, take_min}
 use lib.ListN.{length, take, drop, length-append, get_or-eq_default}
-use lib.Seq.{take-take, take-append_seam, get_or-take}
+use lib.Seq.{sets, sets-eq, take-take, take-append_seam, get_or-take}
 use lib.Dec.{leb, ltb}
 use borrow.Author.Tests.{leb-true, ltb-true, lt-ltb, le-leb}
 use Rattle.records.specs.Numbers.{AreBytes, number_bytes}
@@ -139,8 +139,7 @@ module _ (buffer : List ℕ) (given : ℕ) (new : Case) (size : ℕ) (capped : C
 
   -- what is put in place of the closing record
   pub longer-put : size + 28 ≤ length buffer
-      → take (size - 4) buffer ++ added ++ drop (size - 4 + 32) buffer
-      ≡ longer_file buffer given new ++ drop (length (longer_file buffer given new)) buffer
+      → sets buffer (size - 4) added ≡ longer_file buffer given new ++ drop (length (longer_file buffer given new)) buffer
   longer-put room =
       let at : size - 4 ≡ length parted.records = omega (arith, records-length) in
       let front : take (size - 4) buffer ≡ parted.records =
@@ -148,8 +147,20 @@ module _ (buffer : List ℕ) (given : ℕ) (new : Case) (size : ℕ) (capped : C
       ∙ ap (take (size - 4)) (capped.part ∙ parted.form)
       ∙ ap (λ (n : ℕ). take n (parted.records ++ closing)) at
       ∙ take-append_seam parted.records closing in
-      let end : size - 4 + 32 ≡ length (longer_file buffer given new) = omega (arith, longer-length, records-length) in
-      rw (front, end) (ap (λ (l : List ℕ). l ++ drop (length (longer_file buffer given new)) buffer) (sym parted.longer))
+      let end : size - 4 + length added ≡ length (longer_file buffer given new) = omega (arith, added-length, longer-length, records-length) in
+      sets-eq added buffer (size - 4) (omega (arith, room, added-length, records-length))
+      ∙ ap (λ (l : List ℕ). l ++ added ++ drop (size - 4 + length added) buffer) front
+      ∙ ap (λ (l : List ℕ). l ++ drop (size - 4 + length added) buffer) (sym parted.longer)
+      ∙ ap (λ (n : ℕ). longer_file buffer given new ++ drop n buffer) end
+
+  -- the same of the buffer's parts
+  pub longer-made : size + 28 ≤ length buffer
+      → take (size - 4) buffer ++ added ++ drop (size - 4 + 32) buffer
+      ≡ longer_file buffer given new ++ drop (length (longer_file buffer given new)) buffer
+  longer-made room =
+      ap (λ (n : ℕ). take (size - 4) buffer ++ added ++ drop (size - 4 + n) buffer) (sym added-length)
+      ∙ sym (sets-eq added buffer (size - 4) (omega (arith, room, added-length, records-length)))
+      ∙ longer-put room
 
 -- the call's answer and the buffer
 module _ (buffer : List ℕ) (given : ℕ) (new : Case) (run : Position) (size : ℕ) (capped : Capped buffer given size) (r : Reading)
@@ -187,7 +198,7 @@ module _ (buffer : List ℕ) (given : ℕ) (new : Case) (run : Position) (size :
 
     pub late-added : (n : ℕ) → v ≡ Accepted n → Done v (take (size - 4) buffer ++ (case_record new ++ closing) ++ drop (size - 4 + 32) buffer)
     unfolding added_buffer buffer_after
-    late-added n z = (answer, rw (← answer, z) (longer-put buffer given new size capped are value passes (late-room n z).1))
+    late-added n z = (answer, rw (← answer, z) (longer-made buffer given new size capped are value passes (late-room n z).1))
 
 -- an accepted call: the task passes, and the questions about the run and the case say yes
 module _ (buffer : List ℕ) (given : ℕ) (new : Case) (run : Position) where

@@ -9,13 +9,12 @@ use lib.ListN.{length, set}
 use lib.Dec.{eqb, ltb}
 use borrow.Author.Tests.{lt-ltb, le-ltb, eq-eqb, ne_eqb, eqb-true}
 use Rattle.records.specs.Loop.{Turn, stop}
-use Rattle.records.specs.Numbers.{byte_at, eight_at, u64_at}
+use Rattle.records.specs.Numbers.{byte_at, u64_at}
 use Rattle.records.specs.Record.{record_at}
 use Rattle.std.specs.Prelude.{Ok, Err, Option, Some}
 use Rattle.records.specs.declared.record.Record.{Record}
 use Rattle.records.proofs.Laws.Record.{found_record, record-ends}
 use Rattle.records.proofs.Laws.Loop.{ask-yes, ask-no}
-use Rattle.records.proofs.Laws.Numbers.{u64-there}
 use Rattle.task.specs.Bounds.{bounds_at, in_range}
 use Rattle.task.specs.Facts.{literals_at, case_consistent, pairs_before_fault_at}
 use Rattle.task.specs.Instruction.{decode_for, encode, triple_at, with_triple}
@@ -222,10 +221,11 @@ module _ (bytes : List ℕ) (p : Progress) (kind body size next : ℕ) (o q : Li
   unfolding kind_turn
   kind-case e f = f ∙ by-case _ _ _ _ _ _ e
 
-  -- the closing record; question 9 is still to ask
-  pub kind-close : kind ≡ 5 → t ≡ close_turn bytes (state p o q) next → t ≡ kind_turn bytes (state p o q) kind body size next
+  -- any other kind is the closing record; question 9 is still to ask
+  pub kind-close : (kind ≡ 1 → ⊥) → (kind ≡ 2 → ⊥) → (kind ≡ 3 → ⊥) → (kind ≡ 4 → ⊥) → t ≡ close_turn bytes (state p o q) next
+      → t ≡ kind_turn bytes (state p o q) kind body size next
   unfolding kind_turn
-  kind-close e f = f ∙ by-close _ _ _ _ _ _ (λ h. omega arith) (λ h. omega arith) (λ h. omega arith) (λ h. omega arith)
+  kind-close n₁ n₂ n₃ n₄ f = f ∙ by-close _ _ _ _ _ _ n₁ n₂ n₃ n₄
 
 -- questions 2 and 3 of a record
 module _ (bytes : List ℕ) (p : Progress) (kind body size next : ℕ) (o q : List ℕ) where

@@ -203,7 +203,11 @@ module _ (bytes : List ℕ) (p : Progress) (r : Record) (o q : List ℕ) where
 
         pub asks-close : k ≡ Closing → turned bytes p r (Ok k) o q ≡ on_record bytes (state p o q) (Some r)
         unfolding turned
-        asks-close h = rw h (asks _ (kind-close bytes p r.kind r.body r.length r.next o q _ (e ∙ ap kind_number h) refl))
+        asks-close h =
+            let five : r.kind ≡ 5 = e ∙ ap kind_number h in
+            rw h
+            (asks _
+            (kind-close bytes p r.kind r.body r.length r.next o q _ (λ n. omega arith) (λ n. omega arith) (λ n. omega arith) (λ n. omega arith) refl))
 
         module _ (o' q' : List ℕ) (a : Result Unit Question) where
           part : (k : Kind) → (k ≡ Closing → ⊥) → (a : Result Unit Question)

@@ -4,9 +4,6 @@ use Rattle.checker.proofs.Laws.Records.{line-written, line-repeated}
 use Rattle.checker.specs.Plan.{kind_of}
 use Rattle.checker.proofs.trace.next_record.Goals as goal
 
-pub spelled-instruction-requires : goal.spelled-instruction-requires
-spelled-instruction-requires c = rw (c.triple_at-w.ensures, c.line_offset-offset.ensures) c.requires.0.spells
-
 pub returns-then-lines-offset-ne0 : goal.returns-then-lines-offset-ne0
 unfolding kind_of
 returns-then-lines-offset-ne0 c =

@@ -2,13 +2,13 @@
 -- Assumes nothing.
 use mathlib.Core.Path.{◌∙◌}
 use Rattle.std.proofs.lemmas.Result.{err_from_is_err_and}
-use Rattle.checker.proofs.Laws.Answer.{task-turned-down, program-refused, run-answers}
+use Rattle.checker.proofs.Laws.Answer.{task-no, program-refused, run-answers}
 use Rattle.checker.proofs.write.write_plan.Goals as goal
 
 pub returns-in_err-layout : goal.returns-in_err-layout
 returns-in_err-layout c =
     let p = err_from_is_err_and c.from_residual.result c.from_residual.ensures.1 in
-    rw (p.1, p.2) (task-turned-down _ _ _ _ c.in_err-layout.ensures)
+    rw (p.1, p.2) (task-no _ _ _ _ c.in_err-layout.ensures)
 
 pub returns-in_err-check_program : goal.returns-in_err-check_program
 returns-in_err-check_program c =

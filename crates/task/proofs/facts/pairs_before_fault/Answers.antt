@@ -6,6 +6,3 @@ use Rattle.task.proofs.facts.pairs_before_fault.Goals as goal
 
 pub returns-then-facts-ge64 : goal.returns-then-facts-ge64
 returns-then-facts-ge64 c = c.pairs_to.ensures _ (most-all _ (omega arith))
-
-pub returns : goal.returns
-returns c = c.pairs_to-2.ensures _ c.most.ensures

@@ -1,25 +1,16 @@
 -- `task::reading::with_record` meets its contract, kind by kind.
 -- Assumes nothing.
-use mathlib.Core.Path.{◌≡◌, refl, ap}
+use mathlib.Core.Path.{refl}
 use mathlib.Core.Logic.{inl, inr}
 use native.Mathlib.Omega.{arith}
-use Rattle.task.specs.declared.index.Index.{Index}
 use Rattle.task.proofs.Laws.Reading.{with-header, with-action, with_first, with-later, with-other}
 use Rattle.task.proofs.reading.with_record.Goals as goal
 use Rattle.task.proofs.reading.with_record.Goals.{then-index-eq0, else-index-eq0}
-
-pub bounds_at-requires : goal.bounds_at-requires
-bounds_at-requires c = c.requires.0 c.in-Header.is
 
 pub returns-in-Header : goal.returns-in-Header
 returns-in-Header c =
     let d = c.default.ensures in
     rw (c.in-Header.is, d.1.0, d.1.1.0, d.1.1.1) (with-header _ _ _ _ _ _ c.bounds_at.ensures refl)
-
-pub overflow_add-index-in-Case : goal.overflow_add-index-in-Case
-overflow_add-index-in-Case c =
-    let counts : (i j : Index) → i ≡ j → i.cases ≡ j.cases = λ i j e. ap (λ (k : Index). k.cases) e in
-    elim c.if-index-eq0.branch [ then-index-eq0 w ↦ omega (arith, counts _ _ w.index-is) | else-index-eq0 w ↦ omega (arith, counts _ _ w.index-is) ]
 
 pub returns-in-Action : goal.returns-in-Action
 returns-in-Action c = rw c.in-Action.is (with-action _ _ _ _ _ refl)
