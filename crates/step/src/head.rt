@@ -39,6 +39,7 @@ impl Head {
     }
 
     // The head of a position.
+    #[tactic(auto, unfolding(crate::specs::Head::head_of, crate::specs::Position::top))]
     pub fn of(position: Position) -> Head
         requires { position.depth ≤ 16 }
         ensures { result ≡ head_of position }
@@ -65,6 +66,7 @@ impl Head {
     }
 
     // The position of this head over its frames: the top one is the head's, whatever stands in its slot.
+    #[tactic(auto, unfolding(crate::specs::Head::over, crate::specs::Head::top_of))]
     pub fn over(self, mut frames: [Frame; 16]) -> Position
         requires { self.depth ≤ 16 }
         ensures { result ≡ over self frames }
