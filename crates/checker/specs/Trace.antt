@@ -1,6 +1,6 @@
--- The writer's trace, the top frame at each step of a run; and what a trace leads to, the lines preset or run and the records of its first steps.
--- Only contracts of private functions cite it.
-use Rattle.std.specs.Prelude.{ℕ, zero, suc, ◌+◌, ◌≤◌, ◌<◌, ◌≡◌, true, List, [], ◌++◌, length, take, drop, get_or}
+-- The writer's trace, the top frame at each step of a run, which the code keeps in one byte; and what a trace leads to, the lines preset or run and
+-- the records of its first steps. Only contracts of private functions cite it.
+use Rattle.std.specs.Prelude.{ℕ, zero, suc, ◌+◌, ◌/◌, ◌%◌, ◌≤◌, ◌<◌, ◌≡◌, true, List, [], ◌++◌, length, take, drop, get_or}
 use Rattle.task.specs.Instruction.{spelled}
 use Rattle.task.specs.Program.{line_offset, line_bytes, spelled_on, is_instruction}
 use Rattle.task.specs.declared.bounds.Bounds.{Bounds}
@@ -10,6 +10,10 @@ use Rattle.checker.specs.Check.{written}
 use Rattle.checker.specs.Plan.{record_of}
 use Rattle.checker.specs.Write.{step_on}
 use Rattle.checker.specs.declared.plan.Step.{Step}
+
+-- the frame of a byte: its procedure is below 8, and its line below 32
+unfoldable pub frame_of : ℕ → Frame
+frame_of n = record { procedure = record { 0 = n / 32 }; line = record { 0 = n % 32 } }
 
 -- bytes with the first so many of others at an offset
 unfoldable pub with_bytes : List ℕ → ℕ → ℕ → List ℕ → List ℕ

@@ -35,7 +35,7 @@ use task::refusal::Refusal;
 // What stands at an offset of the plan where questions 11 to 17 say yes: the closing record, with the offset after it; or a step of the top
 // frame's line, with its instruction's three bytes and the next record's offset.
 #[derive(Clone, Copy, Debug, PartialEq, Eq)]
-pub(crate) enum Read {
+pub enum Read {
     Closing { next: usize },
     Ready { step: Step, w: Triple, next: usize },
 }

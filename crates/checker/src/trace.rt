@@ -1,10 +1,10 @@
-// The writer's trace, the top frame at each step of a run. From it and the program come the plan's records.
-ghost use Rattle.std.specs.Prelude.{◌≡◌, [], ◌∷◌, ◌++◌, ◌≤◌, length};
+// The writer's trace, the top frame at each step of a run, in one byte each. From it and the program come the plan's records.
+ghost use Rattle.std.specs.Prelude.{◌≡◌, [], ◌∷◌, ◌++◌, ◌≤◌, ◌<◌, length, map};
 ghost use Rattle.records.specs.Record.{record_bytes, closing};
 ghost use Rattle.task.specs.Verdict.{verdict};
 ghost use Rattle.checker.specs.Answer.{accepted};
 ghost use Rattle.checker.specs.Plan.{kind_of};
-ghost use Rattle.checker.specs.Trace.{SpelledAt, lines_with, record_on, Spelled, records_after};
+ghost use Rattle.checker.specs.Trace.{frame_of, SpelledAt, lines_with, record_on, Spelled, records_after};
 ghost use Rattle.checker.specs.Write.{on_finish};
 
 use crate::check::put;
@@ -12,10 +12,29 @@ use crate::kind::PlanKind;
 use crate::plan::{Step, kind_of};
 use step::position::Frame;
 use task::bounds::Bounds;
-use task::instruction::{Triple, put_triple, spelled, triple_at};
+use task::instruction::{Line, Proc, Triple, put_triple, spelled, triple_at};
 use task::program::line_offset;
 use task::questions::Question;
 use task::refusal::Refusal;
+
+// A frame in one byte, its line's number plus 32 times that of its procedure: so the trace of 4,096 steps has as many bytes of stack.
+pub(crate) fn byte_of(frame: Frame) -> u8
+    requires { (frame.procedure.0 < 8) × (frame.line.0 < 32) }
+    ensures { frame_of result ≡ frame }
+{
+    32 * frame.procedure.0 + frame.line.0
+}
+
+// The frame of such a byte.
+#[tactic(auto, unfolding(crate::specs::Trace::frame_of))]
+fn frame_of(byte: u8) -> Frame
+    ensures { result ≡ frame_of byte }
+{
+    Frame {
+        procedure: Proc(byte / 32),
+        line: Line(byte % 32),
+    }
+}
 
 // The record of a step at a frame, by the three bytes of its instruction.
 #[tactic(auto, unfolding(records::specs::Record::record_bytes, records::specs::Numbers::number_bytes))]
@@ -48,17 +67,19 @@ fn next_record(bounds: Bounds, program: &[u8], lines: &mut [u8; 768], frame: Fra
 pub(crate) fn write_records(
     bounds: Bounds,
     program: &[u8],
-    trace: &[Frame],
+    trace: &[u8],
     presets: [u8; 768],
     buffer: &mut [u8],
 ) -> Result<usize, Refusal>
     requires { (length trace.now ≤ 4096)
         × (length program.now ≤ 768)
-        × Spelled bounds program.now trace.now (length trace.now) }
+        × Spelled bounds program.now (map frame_of trace.now) (length trace.now) }
     ensures { record { verdict = verdict result; buffer = buffer.new }
         ≡ on_finish
         buffer.old
-        (accepted (length trace.now) (records_after bounds program.now presets trace.now (length trace.now) ++ closing)) }
+        (accepted
+        (length trace.now)
+        (records_after bounds program.now presets (map frame_of trace.now) (length trace.now) ++ closing)) }
 {
     let count = trace.len();
     let size = 9 * count + 4;
@@ -66,8 +87,8 @@ pub(crate) fn write_records(
         return Err(Question::PlanNoRoom.at(size));
     }
     let mut lines = presets;
-    for (k, &frame) in trace.iter().enumerate() {
-        let record = next_record(bounds, program, &mut lines, frame);
+    for (k, &byte) in trace.iter().enumerate() {
+        let record = next_record(bounds, program, &mut lines, frame_of(byte));
         put(buffer, 9 * k, &record);
     }
     put(buffer, 9 * count, &[0, 0, PlanKind::Closing as u8, 0]);

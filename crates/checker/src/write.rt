@@ -6,17 +6,16 @@ ghost use Rattle.task.specs.Reading.{read_task, reading};
 ghost use Rattle.task.specs.Verdict.{Accepted, verdict};
 ghost use Rattle.checker.specs.Write.{run, on_finish, write};
 
-use crate::trace::write_records;
+use crate::trace::{byte_of, write_records};
 use step::head::Head;
 use step::held::HeldTask;
 use step::perform::ask;
-use step::position::Frame;
 use task::program::{check_program, line_instruction};
 use task::questions::Question;
 use task::reading::read_task;
 use task::refusal::Refusal;
 
-// The whole run, and its plan: `trace` has the frame of each step, and `callers`, at each depth, the frame that a pop comes back to, as in
+// The whole run, and its plan: `trace` has the byte of each step's frame, and `callers`, at each depth, the frame that a pop comes back to, as in
 // the checker.
 fn run(
     task: HeldTask,
@@ -36,7 +35,7 @@ fn run(
 {
     let mut head = Head::starting(task.bytes, task.index.first);
     let mut callers = [head.caller(); 17];
-    let mut trace = [Frame::default(); 4096];
+    let mut trace = [0u8; 4096];
     while head.case < task.index.cases {
         let steps = head.steps as usize;
         if task.index.bounds.steps <= head.steps {
@@ -44,7 +43,7 @@ fn run(
         }
         let w = line_instruction(task.index, program, head.procedure, head.line);
         let facts = ask(task, head, w).map_err(|question| question.at(steps))?;
-        trace[steps] = head.top();
+        trace[steps] = byte_of(head.top());
         let depth = head.depth as usize;
         callers[depth] = head.caller();
         head = head.moved(task.bytes, task.index, callers[depth - 1], facts, w);

@@ -59,7 +59,8 @@ fn read_full<'a>(file: &mut impl Read, space: &'a mut [u8]) -> &'a [u8]
     ensures { length result.now ≤ length space.old }
 {
     let mut size = 0;
-    while let Ok(read) = file.read(&mut space[size..]) {
+    while size < space.len() {
+        let read = file.read(&mut space[size..]).unwrap_or(0);
         if read == 0 {
             break;
         }

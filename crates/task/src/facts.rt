@@ -3,7 +3,6 @@ ghost use Rattle.std.specs.Prelude.{◌≡◌, ℕ, ◌+◌, ◌≤◌, length};
 ghost use Rattle.task.specs.Facts.{literals_at, within, Greatest, consistent, case_consistent, pairs_before_fault};
 
 use crate::index::Case;
-use crate::search::first_no;
 use records::numbers::eight_at;
 
 // A pair of fact sets: the facts to be true and the facts to be false.
@@ -64,10 +63,17 @@ pub fn case_consistent(facts: u8, case: Case) -> bool
 fn pairs_to(most: u64, body: &[u8]) -> usize
     ensures { (facts : ℕ) → Greatest facts most → result ≡ pairs_before_fault facts body.now }
 {
-    first_no(
-        body.len() / 16,
-        |k| consistent_to(most, literals_at(body, 16 * k)),
-    )
+    // Bytes are counted and not pairs, as a search by the pair's number would: that is one instruction a pair less.
+    let end = body.len() / 16 * 16;
+    let mut at = 0;
+    while at < end {
+        if consistent_to(most, literals_at(body, at)) {
+            at += 16;
+        } else {
+            return at / 16;
+        }
+    }
+    at / 16
 }
 
 // Of the pairs in an action's body, how many stand before the first that fails question 6: all of them exactly if none does. Fewer than 16 bytes

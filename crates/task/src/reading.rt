@@ -18,10 +18,10 @@ use records::record::{Record, record_at};
 
 // How far the reading is: the next record's offset, the kind of the record before it, if there is one, and the index so far.
 #[derive(Clone, Copy, Debug, PartialEq, Eq)]
-pub(crate) struct Progress {
-    at: usize,
-    last: Option<Kind>,
-    index: Index,
+pub struct Progress {
+    pub at: usize,
+    pub last: Option<Kind>,
+    pub index: Index,
 }
 
 // Question 2.

@@ -75,8 +75,23 @@ fn write_presets(rt: &impl Print, presets: &[u8; 768]) -> io::Result<()> {
     println!(rt)
 }
 
+// Where a task stands; a task that does not pass has an empty layout. This and the four below stay calls, so that a request has on the stack only
+// what it needs.
+#[inline(never)]
+fn layout_of(task: &[u8]) -> Layout {
+    read_task(task).unwrap_or_default()
+}
+
+// A task's number and value.
+#[inline(never)]
+fn answer_verdict(rt: &impl Print, bytes: &[u8]) -> io::Result<()> {
+    write_verdict(rt, read_task(bytes).map(|_| ()))
+}
+
 // What the readers say of a task.
-fn write_task(rt: &impl Print, bytes: &[u8], layout: &Layout) -> io::Result<()> {
+#[inline(never)]
+fn answer_task(rt: &impl Print, bytes: &[u8]) -> io::Result<()> {
+    let layout = layout_of(bytes);
     let index = layout.index;
     write_bounds(rt, index.bounds)?;
     for &at in layout.offsets.iter().take(index.actions as usize) {
@@ -88,11 +103,7 @@ fn write_task(rt: &impl Print, bytes: &[u8], layout: &Layout) -> io::Result<()> 
     write_presets(rt, &layout.presets)
 }
 
-// Where a task stands; a task that does not pass has an empty layout.
-fn layout_of(task: &[u8]) -> Layout {
-    read_task(task).unwrap_or_default()
-}
-
+#[inline(never)]
 fn answer_program(rt: &impl Print, bytes: &[u8]) -> io::Result<()> {
     let Some((size, files)) = bytes.split_first_chunk::<2>() else {
         return Ok(());
@@ -104,6 +115,7 @@ fn answer_program(rt: &impl Print, bytes: &[u8]) -> io::Result<()> {
     write_verdict(rt, check_program(layout.index, &layout.presets, program))
 }
 
+#[inline(never)]
 fn answer_pairs(rt: &impl Print, bytes: &[u8]) -> io::Result<()> {
     let Some((facts, body)) = bytes.split_first() else {
         return Ok(());
@@ -115,8 +127,8 @@ fn answer_pairs(rt: &impl Print, bytes: &[u8]) -> io::Result<()> {
 fn answer_body(rt: &impl Print, kind: u16, body: &[u8]) -> io::Result<()> {
     match kind {
         0 => rt.write_all(body),
-        1 => write_verdict(rt, read_task(body).map(|_| ())),
-        2 => write_task(rt, body, &layout_of(body)),
+        1 => answer_verdict(rt, body),
+        2 => answer_task(rt, body),
         3 => answer_program(rt, body),
         _ => answer_pairs(rt, body),
     }
@@ -128,4 +140,52 @@ fn main(rt: HostRuntime) -> io::Result<()> {
         answer_body(&rt, kind, read_body(input, &mut space, size))?;
         Ok(true)
     })
+}
+
+#[cfg(test)]
+mod tests {
+    use task::questions::Question;
+
+    // The numbers of the documents and of the C header.
+    #[test]
+    fn a_question_has_its_number(rt: HostRuntime) {
+        for (question, number) in [
+            (Question::TaskRecordCut, 1),
+            (Question::TaskRecordKind, 2),
+            (Question::TaskRecordLength, 3),
+            (Question::TaskTooMany, 4),
+            (Question::TaskBounds, 5),
+            (Question::TaskFacts, 6),
+            (Question::TaskPreset, 7),
+            (Question::TaskPresetTwice, 8),
+            (Question::TaskNotEnded, 9),
+            (Question::ProgramNoRoom, 10),
+            (Question::PlanRecordCut, 11),
+            (Question::PlanRecordKind, 12),
+            (Question::PlanRecordLength, 13),
+            (Question::StepBound, 14),
+            (Question::StepInstruction, 15),
+            (Question::StepAfterFinish, 16),
+            (Question::StepElsewhere, 17),
+            (Question::StepLine, 18),
+            (Question::Precondition, 19),
+            (Question::Clash, 20),
+            (Question::StackFull, 21),
+            (Question::Goal, 22),
+            (Question::CaseOpen, 23),
+            (Question::PlanNotEnded, 24),
+            (Question::ProgramLength, 25),
+            (Question::ProgramInstruction, 26),
+            (Question::ProgramPreset, 27),
+            (Question::LineEmpty, 28),
+            (Question::PlanNoRoom, 29),
+            (Question::FileTooLong, 30),
+            (Question::RunImpossible, 31),
+            (Question::RunFinished, 32),
+            (Question::CasesFull, 33),
+            (Question::CaseNoRoom, 34),
+        ] {
+            assert_eq!(rt; question as u8, number, "{question:?}");
+        }
+    }
 }

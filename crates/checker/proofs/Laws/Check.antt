@@ -26,7 +26,7 @@ use Rattle.task.specs.declared.instruction.Line.{Line}
 use Rattle.task.specs.declared.instruction.Proc.{Proc}
 use Rattle.task.specs.declared.instruction.Triple.{Triple}
 use Rattle.task.specs.declared.questions.Question.{Question}
-use Rattle.task.proofs.Laws.Instruction.{keep-is, not-instruction, instruction-is, decode-spelled, decoded-for, decoded-there}
+use Rattle.task.proofs.Laws.Instruction.{keep-is, not-instruction, instruction-is, decode-spelled, decoded-for, decoded-there, put-length}
 use Rattle.task.proofs.Laws.Triple.{same-triple, put_same}
 use Rattle.step.specs.declared.head.Head.{Head}
 use Rattle.step.specs.Perform.{perform}
@@ -136,6 +136,12 @@ module _ (step : Step) (w : Triple) (k : w ≡ encode (instruction_of step)) whe
       fills : (x : Step) → w ≡ encode (instruction_of x) → line_fits (triple_at program at) x ≡ true → with_triple program at w ≡ written program at x
       fills (Write v) e y = ap (with_triple program at) e
       fills (Repeat v) e y = rw (e, ← same-triple (triple_at program at) (encode v) y) (put_same program at)
+
+-- a step writes in place
+pub written-length : (program : List ℕ) (at : ℕ) (step : Step) → length (written program at step) ≡ length program
+unfolding written
+written-length program at (Write w) = put-length program at (encode w)
+written-length program at (Repeat w) = refl
 
 -- a step on the top frame's line that questions 14 to 17 let pass
 pub step-is-ready : (i : Index) (h : Head) → in_range i.bounds ≡ true → h.case < i.cases → h.steps < i.bounds.steps → (f : Frame)

@@ -183,8 +183,8 @@ module _ {bytes : List ℕ} {t : Layout} {program : List ℕ} {trace : List Fram
           line-passes i t.presets program p h.procedure h.line in-program.0 in-program.1,
         )
 
-    pub runs-small : h.line.0 < 255
-    runs-small = let r = ranges i.bounds passed.bounded in omega (arith, in-program.1)
+    pub runs-small : (h.procedure.0 < 8) × (h.line.0 < 32)
+    runs-small = let r = ranges i.bounds passed.bounded in (omega (arith, in-program.0), omega (arith, in-program.1))
 
     few : h.steps < i.bounds.steps → s.steps < i.bounds.steps
     few left = omega (arith, r.stands.steps, left)

@@ -1,15 +1,15 @@
 -- The trace of a run. What it leads to after k steps is by its first k frames alone. So with the top frame put at the number of the steps done,
 -- the writer's state by the trace goes to the state by the trace after one step more.
 -- Assumes nothing.
-use Prim.Native.Nat.{ℕ, zero, suc, ◌+◌, ◌*◌, ◌/◌, ◌%◌, ◌≤◌, ◌<◌}
+use Prim.Native.Nat.{ℕ, zero, suc, ◌+◌, ◌*◌, ◌≤◌, ◌<◌}
 use mathlib.Core.Path.{◌≡◌, refl, sym, ap, ◌∙◌}
 use mathlib.Core.Bool.{true}
-use mathlib.Core.List.{List, ◌++◌}
+use mathlib.Core.List.{List, ◌++◌, map}
 use mathlib.Core.Logic.{◌⊎◌, inl, inr}
 use native.Mathlib.Nat.{eq-or-lt_of_le}
 use native.Mathlib.Numerals.{add-one}
 use native.Mathlib.Omega.{arith}
-use lib.ListN.{length, get_or, set, length-append}
+use lib.ListN.{length, get_or, set, length-append, get_or-map}
 use lib.Seq.{get_or-set_same, get_or-set_other}
 use borrow.Author.Tests.{lt-ltb}
 use Rattle.records.specs.Loop.{Turn, stop, go, after}
@@ -27,22 +27,24 @@ use Rattle.step.specs.declared.position.Frame.{Frame}
 use Rattle.step.specs.declared.position.Position.{Position}
 use Rattle.step.proofs.Laws.Perform.{step-ran, ran-steps}
 use Rattle.checker.specs.Answer.{refused, accepted}
-use Rattle.checker.specs.Trace.{SpelledAt, step_at, lines_with, record_on, Spelled, lines_after, records_after}
+use Rattle.checker.specs.Trace.{frame_of, SpelledAt, step_at, lines_with, record_on, Spelled, lines_after, records_after}
 use Rattle.checker.specs.Write.{Writing, on_step, write_turn, start, run}
 use Rattle.checker.proofs.Laws.Check.{frame_is}
 use Rattle.checker.proofs.Laws.Write.{record-length, finished-accepts, run_from, run-start, run-turn}
 
--- a frame in one byte, its procedure below 8 and its line below 32, and the frame of such a byte
+-- the byte of a frame, whose procedure is below 8 and whose line below 32
 unfoldable pub byte_of : Frame → ℕ
 byte_of f = 32 * f.procedure.0 + f.line.0
-
-unfoldable pub frame_of : ℕ → Frame
-frame_of n = record { procedure = record { 0 = n / 32 }; line = record { 0 = n % 32 } }
 
 -- the frame of a frame's byte is that frame
 pub byte-frame : (f : Frame) → f.line.0 < 32 → frame_of (byte_of f) ≡ f
 unfolding byte_of frame_of
 byte-frame f h = frame_is (omega arith) (omega arith)
+
+-- the frames of a trace's bytes, one by one
+pub frame-there : (bytes : List ℕ) (k : ℕ) → get_or (map frame_of bytes) k origin ≡ frame_of (get_or bytes k 0)
+unfolding frame_of origin
+frame-there bytes k = get_or-map frame_of bytes k 0
 
 -- the writer's state at a position, by the trace of the steps done
 abbrev pub traced : Bounds → List ℕ → List ℕ → List Frame → Position → Writing

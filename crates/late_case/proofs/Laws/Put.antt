@@ -1,7 +1,7 @@
 -- The bytes that are put for a case: those of its record and of the closing one, part by part, and these in the buffer; by parts of a slice, as the code
 -- does, and number by number.
 -- Assumes nothing.
-use Prim.Native.Nat.{ℕ, suc, ◌+◌, ◌-◌}
+use Prim.Native.Nat.{ℕ, suc, ◌+◌, ◌-◌, ◌/◌, ◌%◌, ◌≤◌, ◌<◌}
 use mathlib.Core.Path.{◌≡◌, refl, sym, ap, ◌∙◌}
 use mathlib.Core.List.{List, [], ◌∷◌, ◌++◌, append-nil, append_assoc}
 use native.Mathlib.Omega.{arith}
@@ -19,6 +19,20 @@ use Rattle.task_file.specs.Bytes.{pair_bytes, case_record}
 pub number-le : (n : ℕ) → to_le_bytes w64 n ≡ number_bytes 8 n
 unfolding number_bytes
 number-le n = simp div-div-eq-div-mul
+
+-- of a number's bytes, those that are left from the k-th on
+module _ (bytes : List ℕ) (at width rest k : ℕ) where
+  pub put_next : k < width
+      → sets (set bytes (at + k) (rest % 256)) (at + (k + 1)) (number_bytes (width - (k + 1)) (rest / 256)) ≡ sets bytes (at + k) (number_bytes (width - k) rest)
+  unfolding number_bytes
+  put_next h =
+      let e : width - k ≡ suc (width - (k + 1)) = omega (arith, h) in
+      let f : at + (k + 1) ≡ suc (at + k) = omega arith in
+      rw (e, f) refl
+
+  pub put_all : width ≤ k → bytes ≡ sets bytes (at + k) (number_bytes (width - k) rest)
+  unfolding number_bytes
+  put_all h = let e : width - k ≡ 0 = omega (arith, h) in rw e refl
 
 -- what is put at the end of a list leaves nothing behind it
 end-put : (k : ℕ) (l part : List ℕ) → put_mid k (length l - k) l part ≡ take k l ++ part

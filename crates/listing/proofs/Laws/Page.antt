@@ -60,3 +60,7 @@ put_all buffer text =
 -- a word, byte by byte
 pub puts_next : (p : Page) (word : List ℕ) (k : ℕ) → k < length word → puts (puts p (take k word)) (get_or word k 0 ∷ []) ≡ puts p (take (k + 1) word)
 puts_next p word k h = puts_append p (take k word) _ ∙ rw (add-one, take-suc word k 0)
+
+pub put_next : (p q : Page) (word : List ℕ) (k : ℕ) → q ≡ puts p (take k word)
+    → (r : Page) → k < length word → r ≡ puts q (get_or word k 0 ∷ []) → r ≡ puts p (take (k + 1) word)
+put_next p q word k sofar r h next = next ∙ ap (λ (s : Page). puts s (get_or word k 0 ∷ [])) sofar ∙ puts_next p word k h

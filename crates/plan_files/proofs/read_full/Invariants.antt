@@ -2,8 +2,8 @@
 use Rattle.std.proofs.Common.{length, ◌-◌, ◌≤◌}
 use Rattle.plan_files.proofs.read_full.Given as goal
 
-abbrev pub invariant-loop-read : goal.invariant-loop-read
-invariant-loop-read g l = l.size ≤ length l.space
+abbrev pub invariant-loop-size : goal.invariant-loop-size
+invariant-loop-size g l = l.size ≤ length l.space
 
-abbrev pub decreases-loop-read : goal.decreases-loop-read
-decreases-loop-read g l = length l.space - l.size
+abbrev pub decreases-loop-size : goal.decreases-loop-size
+decreases-loop-size g l = length l.space - l.size

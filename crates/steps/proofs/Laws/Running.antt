@@ -19,20 +19,23 @@ use Rattle.task.specs.declared.index.Index.{Index}
 use Rattle.task.specs.declared.instruction.Instruction.{Instruction}
 use Rattle.task.specs.declared.instruction.Instruction.TheVariants.{Empty, Act, Goto, Call, End}
 use Rattle.task.specs.declared.questions.Question.{Question}
+use Rattle.task.proofs.Laws.Bounds.{ranges}
+use Rattle.task.proofs.Laws.Passed.{passed}
 use Rattle.step.specs.Head.{head_of, top_of, left_by, over, stored, counted_head, ended_head, moved_head}
 use Rattle.step.specs.Moved.{performed_as, line_as}
 use Rattle.step.specs.Perform.{Stepped, perform, run_line, run_step, unchanged, answered}
 use Rattle.step.specs.Position.{origin, top}
 use Rattle.step.specs.Possible.{possible}
 use Rattle.step.specs.Questions.{STEPS}
-use Rattle.step.specs.Ready.{Bounded, Lined, Open, Runs}
+use Rattle.step.specs.Ready.{Held, Lined, Open, Runs}
 use Rattle.step.specs.Single.{step_once, single_step}
 use Rattle.step.specs.declared.head.Head.{Head}
 use Rattle.step.specs.declared.position.Frame.{Frame}
 use Rattle.step.specs.declared.position.Position.{Position}
 use Rattle.step.proofs.Laws.Answers.{steps-used, steps-left}
 use Rattle.step.proofs.Laws.Moved.{line-stops, line-goes}
-use Rattle.step.proofs.Laws.Ready.{possible-depth, open-depth}
+use Rattle.step.proofs.Laws.Possible.{parts}
+use Rattle.step.proofs.Laws.Ready.{passed-held, possible-depth, open-depth}
 use Rattle.step.proofs.Laws.Single.{step-finished, step-runs, both-passed, single-possible}
 use Rattle.steps.specs.Many.{StepsTaken, taken_to, onward, steps_from}
 use Rattle.steps.specs.Running.{Admitted}
@@ -148,6 +151,9 @@ pub record Reached (bytes : List ℕ) (i : Index) (program : List ℕ) (first : 
 
 -- task, program and position were admitted
 module _ (bytes : List ℕ) (i : Index) (offsets program : List ℕ) (first : Position) (a : Admitted bytes i offsets program first) where
+  pub admitted-held : Held bytes i offsets
+  admitted-held = rw (← a.index, ← a.offsets) (passed-held bytes (read_task bytes).layout (passed bytes a.value a.task))
+
   pub admitted-lined : Lined i program
   admitted-lined = record { presets = (read_task bytes).layout.presets; value = a.checked; passes = a.program }
 
@@ -155,6 +161,12 @@ module _ (bytes : List ℕ) (i : Index) (offsets program : List ℕ) (first : Po
   once s =
       rw (← a.index, ← a.offsets)
       (both-passed bytes program s (read_task bytes) refl a.value a.task _ refl a.checked (rw a.index a.program))
+
+  pub first-few : first.depth ≤ 16
+  first-few = possible-depth i first admitted-held.task a.possible
+
+  pub first-steps : first.steps ≤ 4096
+  first-steps = omega (arith, (ranges i.bounds admitted-held.task.ranges).steps.1, (parts i first a.possible).steps)
 
   module _ (wanted : ℕ) where
     pub reached-first : length first.frames ≡ 16 → (h : Head) → h ≡ head_of first → Reached bytes i program first wanted 0 h first.frames
@@ -176,9 +188,12 @@ module _ (bytes : List ℕ) (i : Index) (offsets program : List ℕ) (first : Po
       abbrev Whole : StepsTaken → Type 0
       Whole x = x ≡ steps_from bytes program wanted 0 first
 
-      pub reached-few : Bounded i → h.depth ≤ 16
+      pub reached-few : h.depth ≤ 16
       unfolding over
-      reached-few task = possible-depth i there task r.standing
+      reached-few = possible-depth i there admitted-held.task r.standing
+
+      pub reached-head : h ≡ head_of there
+      reached-head = over-head h frames r.size reached-few
 
       -- no step more is asked for
       pub reached-all : wanted ≤ made → Whole (taken_to (Accepted made) made there)
@@ -200,9 +215,9 @@ module _ (bytes : List ℕ) (i : Index) (offsets program : List ℕ) (first : Po
 
         -- with a frame
         module _ (above : 0 < h.depth) where
-          pub reached-open : Bounded i → Open i there
+          pub reached-open : Open i there
           unfolding over
-          reached-open task = record { task = task; possible = r.standing; unfinished = above }
+          reached-open = record { task = admitted-held.task; possible = r.standing; unfinished = above }
 
           single : (u : Turn Position ℕ) → u ≡ run_step bytes i offsets program there → answered there u ≡ single_step bytes program there
           unfolding over

@@ -1,10 +1,11 @@
--- What question 5 says of each bound, and so of a program's length.
+-- A program's lines, and where they begin, are numbers that a word can hold: the bounds are bytes. And what question 5 says of each bound, and so of a program's length.
 -- Assumes nothing.
-use Prim.Native.Nat.{ℕ, ◌+◌, ◌*◌, ◌≤◌, ◌<◌}
+use Prim.Native.Nat.{ℕ, ◌+◌, ◌*◌, ◌^◌, ◌≤◌, ◌<◌}
 use mathlib.Core.Path.{◌≡◌}
 use mathlib.Core.Bool.{true, ◌&&◌}
-use native.Mathlib.Nat.{mul-le-mul}
-use lib.Dec.{leb}
+use native.Mathlib.Nat.{mul-le-mul, lt_of_le_of_lt, lt_of_lt_of_le}
+use lib.Dec.{lit<, leb}
+use lib.Pow.{pow_mono}
 use native.Mathlib.Omega.{arith}
 use borrow.Author.Tests.{leb-true}
 use Rattle.records.proofs.Laws.Tests.{both_true}
@@ -13,6 +14,19 @@ use Rattle.task.specs.Program.{line_offset}
 use Rattle.task.specs.declared.bounds.Bounds.{Bounds}
 use Rattle.task.specs.declared.instruction.Line.{Line}
 use Rattle.task.specs.declared.instruction.Proc.{Proc}
+
+module _ (procedure last : ℕ) (h : procedure < 256) (k : last < 256) where
+  few : procedure * (last + 1) ≤ 65280
+  few = mul-le-mul {n₂ = 255} {m₂ = 256} (omega arith) (omega arith)
+
+  pub lines_fit : (bits : ℕ) → 16 ≤ bits → procedure * (last + 1) < 2 ^ bits
+  lines_fit bits wide = lt_of_le_of_lt few (lt_of_lt_of_le (lit< tt) (pow_mono wide))
+
+  pub line-fits : (line : ℕ) → line < 256 → procedure * (last + 1) + line < 2 ^ 64
+  line-fits line l = omega (arith, few)
+
+  pub offset-fits : (line : ℕ) → line < 256 → 3 * (procedure * (last + 1) + line) < 2 ^ 64
+  offset-fits line l = omega (arith, few)
 
 pub between-true : (low x high : ℕ) → between low x high ≡ true → (low ≤ x) × (x ≤ high)
 between-true low x high h =

@@ -1,7 +1,7 @@
 -- Sets below a number of facts by the greatest of them, two of them by their union; question 6 at one pair, at each pair of a row that passes it, and over a
 -- part of a file.
 -- Assumes nothing.
-use Prim.Native.Nat.{ℕ, ◌+◌, ◌-◌, ◌*◌, ◌/◌, ◌^◌, ◌≤◌, ◌<◌}
+use Prim.Native.Nat.{ℕ, ◌+◌, ◌-◌, ◌*◌, ◌/◌, ◌%◌, ◌^◌, ◌≤◌, ◌<◌}
 use mathlib.Core.Path.{◌≡◌, sym, ap, ◌∙◌}
 use mathlib.Core.Bool.{Bool, true, false, ◌&&◌, and-true, and-false}
 use mathlib.Core.List.{List}
@@ -86,13 +86,19 @@ module _ (facts : ℕ) (l : Literals) where
       simp (eq-eqb (bit_and l.positive l.negative) 0 apart, and-true)
       (m _ (or_lt 64 _ _ p n) ∙ within_both facts l.positive l.negative)
 
--- question 6 on the pair at an offset of a body, by its number
+-- question 6 on the pair at an offset of a body, by its number and by the offset
 pub pair-test : (facts : ℕ) (body : List ℕ) (k : ℕ) (l : Literals) (r t : Bool) → l ≡ literals_at body (16 * k) → r ≡ consistent facts l → r ≡ t
     → pair_consistent facts body 0 k ≡ t
 unfolding pair_consistent
 pair-test facts body k l r t e f g =
     let n : 0 + 16 * k ≡ 16 * k = omega arith in
     rw (n, ← e) (sym f ∙ g)
+
+pub pair-test_at : (facts : ℕ) (body : List ℕ) (at : ℕ) (l : Literals) (r t : Bool) → at % 16 ≡ 0 → l ≡ literals_at body at → r ≡ consistent facts l
+    → r ≡ t → pair_consistent facts body 0 (at / 16) ≡ t
+pair-test_at facts body at l r t z e f g =
+    let n : at ≡ 16 * (at / 16) = omega (arith, z) in
+    pair-test facts body (at / 16) l r t (e ∙ ap (literals_at body) n) f g
 
 -- the pairs of a part of a file are those that stand there in the file
 module _ (facts : ℕ) (bytes : List ℕ) (start size : ℕ) (h : start + size ≤ length bytes) where

@@ -1,14 +1,16 @@
 -- `checker::write::run` meets its contract: the head and the callers beside it stand for a position from which the run comes to what the whole
 -- run comes to, and the steps done have their frames in the trace.
 -- Assumes nothing.
-use mathlib.Core.Path.{◌≡◌, refl, sym}
+use mathlib.Core.Path.{◌≡◌, refl, sym, ◌∙◌}
 use native.Mathlib.Omega.{arith}
+use lib.ListN.{take, replicate}
 use Rattle.std.specs.Prelude.{Ok}
 use Rattle.std.proofs.Common.{rules}
-use Rattle.std.proofs.lemmas.List.{length-take-le}
+use Rattle.std.proofs.lemmas.List.{length-take-le, length-map, map-set, take-map}
 use Rattle.std.proofs.lemmas.Result.{err_from_is_err_and}
-use Rattle.step.specs.Head.{starting_head}
+use Rattle.step.specs.Head.{starting_head, top_of}
 use Rattle.step.specs.Position.{origin}
+use Rattle.checker.specs.Trace.{frame_of}
 use Rattle.checker.proofs.Laws.Running.{runs-first, runs-begin, runs-count, runs-spelled, runs-end, runs-out, runs-line, runs-small, runs-known, runs-fits, runs-stop, runs_on}
 use Rattle.checker.proofs.Laws.Stepping.{more-steps}
 use Rattle.checker.proofs.write.run.Goals as goal
@@ -21,7 +23,7 @@ unfolding starting_head
 caller-callers-requires c = rw c.starting-head.ensures (omega arith)
 
 pub loop-head-init : goal.loop-head-init
-loop-head-init c = runs-begin _ _ _ c.requires.read c.requires.passes c.starting-head.ensures _ refl _ refl
+loop-head-init c = runs-begin _ _ _ c.requires.read c.requires.passes c.starting-head.ensures _ refl _ (length-map (replicate 4096 0) frame_of)
 
 pub returns-then-task-head : goal.returns-then-task-head
 returns-then-task-head c =
@@ -43,8 +45,12 @@ returns-in_err-facts c =
     (runs-stop c.loop-head.invariant c.loop-head-test.true c.if-task-head.false c.line_instruction-w.ensures
     c.ask.result c.ask.ensures.0 _ (search rules) _)
 
+pub byte_of-requires : goal.byte_of-requires
+unfolding top_of
+byte_of-requires c = rw c.top.ensures (runs-small c.loop-head.invariant c.loop-head-test.true)
+
 pub caller-requires : goal.caller-requires
-caller-requires c = runs-small c.loop-head.invariant c.loop-head-test.true
+caller-requires c = omega (arith, (runs-small c.loop-head.invariant c.loop-head-test.true).1)
 
 pub moved-head-requires : goal.moved-head-requires
 moved-head-requires c = (
@@ -59,17 +65,25 @@ pub loop-head-preserved : goal.loop-head-preserved
 unfolding origin
 loop-head-preserved c =
     let a : c.ask.result ≡ Ok c.in_ok-facts.facts = search rules in
-    runs_on c.loop-head.invariant c.loop-head-test.true c.if-task-head.false c.line_instruction-w.ensures c.ask.result c.ask.ensures.0 a
-    c.top.ensures c.caller.ensures refl c.moved-head.ensures
+    rw (map-set frame_of _ _ _)
+    (runs_on c.loop-head.invariant c.loop-head-test.true c.if-task-head.false c.line_instruction-w.ensures c.ask.result c.ask.ensures.0 a
+    (c.byte_of.ensures ∙ c.top.ensures) c.caller.ensures refl c.moved-head.ensures)
 
 pub slice_bounds-trace-end : goal.slice_bounds-trace-end
-slice_bounds-trace-end c = runs-count c.loop-head.invariant
+slice_bounds-trace-end c = rw (length-map c.loop-head.trace frame_of) at (runs-count c.loop-head.invariant)
 
 pub slice_bounds-write_records-end : goal.slice_bounds-write_records-end
-slice_bounds-write_records-end c = sym (length-take-le _ _ (runs-count c.loop-head.invariant))
+slice_bounds-write_records-end c =
+    sym (length-take-le _ _ (rw (length-map c.loop-head.trace frame_of) at (runs-count c.loop-head.invariant)))
 
 pub write_records-requires : goal.write_records-requires
-write_records-requires c = runs-spelled c.loop-head.invariant c.loop-head-test.false
+write_records-requires c =
+    let l = c.loop-head in
+    rw (take-map frame_of l.head.steps l.trace, length-map (take l.head.steps l.trace) frame_of)
+    at (runs-spelled l.invariant c.loop-head-test.false)
 
 pub returns : goal.returns
-returns c = runs-end c.loop-head.invariant c.loop-head-test.false _ _ c.write_records.ensures
+returns c =
+    let l = c.loop-head in
+    runs-end l.invariant c.loop-head-test.false _ _
+    (rw (← length-map (take l.head.steps l.trace) frame_of, ← take-map frame_of l.head.steps l.trace) at c.write_records.ensures)

@@ -1,15 +1,14 @@
 -- `steps::many::run` meets its contract: the head over its frames is the position that as many single steps reach as are made.
 -- Assumes nothing.
 use Rattle.std.proofs.Common.{◌<◌, ◌≡◌, ◌-◌, arith, rules}
-use Rattle.step.proofs.Laws.Ready.{possible-depth}
 use Rattle.steps.specs.Many.{taken_to}
 use Rattle.steps.specs.Running.{advanced_as}
-use Rattle.steps.proofs.Laws.Running.{admitted-lined, reached-first, reached-few, reached-finish, reached-open, reached-no, reached-next, reached-all}
+use Rattle.steps.proofs.Laws.Running.{admitted-lined, first-few, reached-first, reached-few, reached-finish, reached-open, reached-no, reached-next, reached-all}
 use Rattle.steps.proofs.many.run.Goals as goal
 use Rattle.steps.proofs.many.run.Goals.{else-loop-test, then-loop-test+then-head-eq0, then-loop-test+else-head-eq0+in-Err}
 
 pub of-head-requires : goal.of-head-requires
-of-head-requires c = possible-depth _ _ c.args.task.held.task c.requires.possible
+of-head-requires c = first-few _ _ _ _ _ c.requires
 
 pub loop-init : goal.loop-init
 loop-init c = record { reached = reached-first _ _ _ _ _ c.requires _ (search rules) _ c.of-head.ensures; none = search rules }
@@ -17,7 +16,7 @@ loop-init c = record { reached = reached-first _ _ _ _ _ c.requires _ (search ru
 pub advance-requires : goal.advance-requires
 advance-requires c =
     let above : 0 < c.loop.head.depth = omega arith in
-    let open-there = reached-open _ _ _ _ _ c.requires _ _ _ _ c.loop.invariant.reached c.loop-test.true above c.args.task.held.task in
+    let open-there = reached-open _ _ _ _ _ c.requires _ _ _ _ c.loop.invariant.reached c.loop-test.true above in
     (open-there, admitted-lined _ _ _ _ _ c.requires)
 
 pub loop-preserved : goal.loop-preserved
@@ -30,7 +29,7 @@ loop-preserved c =
     }
 
 pub over-requires : goal.over-requires
-over-requires c = reached-few _ _ _ _ _ c.requires _ _ _ _ c.loop.invariant.reached c.args.task.held.task
+over-requires c = reached-few _ _ _ _ _ c.requires _ _ _ _ c.loop.invariant.reached
 
 -- the loop ends after all steps, at the finish, or where a question says no, which leaves the frames as they were
 pub returns : goal.returns
