@@ -63,7 +63,7 @@ pub fn case_consistent(facts: u8, case: Case) -> bool
 fn pairs_to(most: u64, body: &[u8]) -> usize
     ensures { (facts : ℕ) → Greatest facts most → result ≡ pairs_before_fault facts body.now }
 {
-    // Bytes are counted and not pairs, as a search by the pair's number would: that is one instruction a pair less.
+    // It counts bytes: a search that counts pairs takes one instruction a pair more.
     let end = body.len() / 16 * 16;
     let mut at = 0;
     while at < end {

@@ -1,5 +1,5 @@
 -- `checker::trace::write_records` meets its contract: question 29 asks for the plan's bytes, and behind k steps `lines` and the buffer's bytes are
--- those of the trace's first k frames.
+-- those of the frames of the trace's first k bytes.
 -- Assumes nothing.
 use mathlib.Core.List.{map}
 use Rattle.checker.specs.Trace.{frame_of}

@@ -1,9 +1,11 @@
 -- `checker::write::run` meets its contract: the head and the callers beside it stand for a position from which the run comes to what the whole
 -- run comes to, and the steps done have their frames in the trace.
 -- Assumes nothing.
+use Prim.Native.Nat.{ℕ, ◌≤◌}
 use mathlib.Core.Path.{◌≡◌, refl, sym, ◌∙◌}
+use mathlib.Core.List.{List, map}
 use native.Mathlib.Omega.{arith}
-use lib.ListN.{take, replicate}
+use lib.ListN.{length, take, replicate}
 use Rattle.std.specs.Prelude.{Ok}
 use Rattle.std.proofs.Common.{rules}
 use Rattle.std.proofs.lemmas.List.{length-take-le, length-map, map-set, take-map}
@@ -69,12 +71,15 @@ loop-head-preserved c =
     (runs_on c.loop-head.invariant c.loop-head-test.true c.if-task-head.false c.line_instruction-w.ensures c.ask.result c.ask.ensures.0 a
     (c.byte_of.ensures ∙ c.top.ensures) c.caller.ensures refl c.moved-head.ensures)
 
+-- the trace has as many bytes as frames
+has-bytes : (trace : List ℕ) {steps : ℕ} → steps ≤ length (map frame_of trace) → steps ≤ length trace
+has-bytes trace h = rw (length-map trace frame_of) at h
+
 pub slice_bounds-trace-end : goal.slice_bounds-trace-end
-slice_bounds-trace-end c = rw (length-map c.loop-head.trace frame_of) at (runs-count c.loop-head.invariant)
+slice_bounds-trace-end c = has-bytes _ (runs-count c.loop-head.invariant)
 
 pub slice_bounds-write_records-end : goal.slice_bounds-write_records-end
-slice_bounds-write_records-end c =
-    sym (length-take-le _ _ (rw (length-map c.loop-head.trace frame_of) at (runs-count c.loop-head.invariant)))
+slice_bounds-write_records-end c = sym (length-take-le _ _ (has-bytes _ (runs-count c.loop-head.invariant)))
 
 pub write_records-requires : goal.write_records-requires
 write_records-requires c =
